@@ -1,0 +1,31 @@
+/* Worst-case response times of the tasks of a table text, by the proved library (rt staticlib crpd).
+ *
+ * Every function takes every text, number and buffer, and answers one number. Below 2^32 it is the
+ * answer; from 2^32 on it is a refusal, whose number and line the functions at the end take out.
+ */
+#ifndef CRPD_H
+#define CRPD_H
+
+#include <stddef.h>
+#include <stdint.h>
+
+/* No report is longer. */
+#define CRPD_REPORT_MOST 2746
+
+/* The response, in ticks, of the task at a position (from 0) under a method (0 to 5), or 0 where the
+ * task is unschedulable. */
+uint64_t crpd_answer(const uint8_t *text, size_t text_len, uint64_t method, uint64_t position);
+
+/* The length of the report, which then stands at the start of out. What follows it in out, and all of
+ * out where the report is refused, stays as it was. */
+uint64_t crpd_report(const uint8_t *text, size_t text_len, uint8_t *out, size_t out_len);
+
+/* The same for what the program crpd-report prints: the report, or the line of the text's refusal. Its
+ * only refusal is 14, where out is too short. */
+uint64_t crpd_print(const uint8_t *text, size_t text_len, uint8_t *out, size_t out_len);
+
+static inline int crpd_is_refusal(uint64_t answer) { return answer >> 32 != 0; }
+static inline unsigned crpd_refusal_number(uint64_t answer) { return (unsigned)(answer >> 32); }
+static inline unsigned crpd_refusal_line(uint64_t answer) { return (unsigned)(answer & 0xffffffffu); }
+
+#endif

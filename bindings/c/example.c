@@ -1,0 +1,36 @@
+/* Prints the response of every task of a table under every method, and then the report. The table is
+ * read from standard input. */
+#include <stdio.h>
+
+#include "crpd.h"
+
+static int refused(uint64_t answer) {
+    fprintf(stderr, "refused: number %u, line %u\n", crpd_refusal_number(answer), crpd_refusal_line(answer));
+    return 1;
+}
+
+int main(void) {
+    static uint8_t text[16385], out[CRPD_REPORT_MOST];
+    size_t len = fread(text, 1, sizeof text, stdin);
+    for (uint64_t position = 0;; position++) {
+        uint64_t answer = crpd_answer(text, len, 0, position);
+        if (crpd_is_refusal(answer) && crpd_refusal_number(answer) == 13)
+            break;
+        if (crpd_is_refusal(answer))
+            return refused(answer);
+        printf("task %u:", (unsigned)position);
+        for (uint64_t method = 0; method < 6; method++) {
+            answer = crpd_answer(text, len, method, position);
+            if (answer == 0)
+                printf(" none");
+            else
+                printf(" %u", (unsigned)answer);
+        }
+        printf("\n");
+    }
+    uint64_t written = crpd_report(text, len, out, sizeof out);
+    if (crpd_is_refusal(written))
+        return refused(written);
+    fwrite(out, 1, (size_t)written, stdout);
+    return 0;
+}

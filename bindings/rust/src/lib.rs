@@ -1,0 +1,50 @@
+//! Worst-case response times of the tasks of a table text, by the proved library, as safe functions. They
+//! take every text, number and buffer. Nothing checks the declarations below against the library's source.
+
+/// No report is longer.
+pub const REPORT_MOST: usize = 2746;
+
+#[link(name = "crpd", kind = "static")]
+extern "C" {
+    fn crpd_answer(text: *const u8, text_len: usize, method: u64, position: u64) -> u64;
+    fn crpd_report(text: *const u8, text_len: usize, out: *mut u8, out_len: usize) -> u64;
+    fn crpd_print(text: *const u8, text_len: usize, out: *mut u8, out_len: usize) -> u64;
+}
+
+/// A refusal's number, and the line that it tells (0 where it tells none).
+#[derive(Clone, Copy, Debug, PartialEq, Eq)]
+pub struct Refusal {
+    pub number: u32,
+    pub line: u32,
+}
+
+// Below 2^32 a number is the answer, from there on a refusal.
+fn told(answer: u64) -> Result<u32, Refusal> {
+    let (number, low) = ((answer >> 32) as u32, answer as u32);
+    if number == 0 {
+        Ok(low)
+    } else {
+        Err(Refusal { number, line: low })
+    }
+}
+
+/// The response, in ticks, of the task at a position (from 0) under a method (0 to 5), or `None` where
+/// the task is unschedulable.
+pub fn answer(text: &[u8], method: u64, position: u64) -> Result<Option<u32>, Refusal> {
+    let answer = told(unsafe { crpd_answer(text.as_ptr(), text.len(), method, position) })?;
+    Ok(Some(answer).filter(|&ticks| ticks != 0))
+}
+
+/// Writes the report at the start of `out` and gives its length. A refused report leaves `out` as it was.
+pub fn report(text: &[u8], out: &mut [u8]) -> Result<usize, Refusal> {
+    let written = unsafe { crpd_report(text.as_ptr(), text.len(), out.as_mut_ptr(), out.len()) };
+    told(written).map(|length| length as usize)
+}
+
+/// What the program `crpd-report` prints: the report, or the line of the text's refusal.
+pub fn print(text: &[u8]) -> Vec<u8> {
+    let mut out = vec![0; REPORT_MOST];
+    let written = unsafe { crpd_print(text.as_ptr(), text.len(), out.as_mut_ptr(), out.len()) };
+    out.truncate(told(written).map_or(0, |length| length as usize));
+    out
+}

@@ -1,0 +1,60 @@
+#!/bin/sh
+# Builds the comparison, runs it, and shows that it would find each error that looks reasonable: with
+# the error built into the model, the made-up tables have to show a mismatch. Takes the words of
+# build.sh, and --longest TICKS for the comparison. The last line counts what passed and failed.
+set -u
+
+here=$(cd "$(dirname "$0")" && pwd -P)
+out=$(dirname "$here")/target/compare
+library=''
+longest=''
+stand_in=''
+while [ $# -gt 0 ]; do
+    case $1 in
+    --stand-in) stand_in=$1 ;;
+    --library | --longest | --out)
+        [ $# -ge 2 ] || { printf 'compare: %s needs a value\n' "$1" >&2; exit 2; }
+        case $1 in
+        --library) library=$2 ;;
+        --longest) longest=$2 ;;
+        --out) out=$2 ;;
+        esac
+        shift
+        ;;
+    *) printf 'usage: run.sh [--library FILE | --stand-in] [--out FOLDER] [--longest TICKS]\n' >&2; exit 2 ;;
+    esac
+    shift
+done
+"$here/build.sh" --out "$out" ${library:+--library "$library"} ${stand_in:+"$stand_in"} || exit 2
+
+log=$out/compare.log
+compare() { "$out/compare" ${longest:+--longest "$longest"} "$@" >"$log" 2>&1; }
+
+compare
+status=$?
+cat "$log"
+last=$(tail -n 1 "$log")
+case $last in
+[0-9]*' passed, '[0-9]*' failed') ;;
+*)
+    printf 'compare: the comparison ended with status %s\n' "$status" >&2
+    exit 2
+    ;;
+esac
+passed=${last%% passed*}
+failed=${last##*, }
+failed=${failed% failed}
+
+for error in 1 2 3 4 5 5b 6; do
+    compare --error "$error" --percent 3
+    status=$?
+    if [ "$status" = 1 ] && grep -q '^mismatch: valid texts' "$log"; then
+        printf 'error %s is found: %s\n' "$error" "$(sed -n 's/^ *\(.* DIFFER\)$/\1/p' "$log")"
+        passed=$((passed + 1))
+    else
+        printf 'error %s is NOT found (status %s)\n' "$error" "$status"
+        failed=$((failed + 1))
+    fi
+done
+printf '%s passed, %s failed\n' "$passed" "$failed"
+[ "$failed" = 0 ]

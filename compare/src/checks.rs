@@ -1,0 +1,201 @@
+//! Asking the model and the library the same, and telling where they differ.
+
+use crate::library;
+use crate::model::{Error, Outcome, Refusal, METHODS};
+
+/// Room for every report and every refusal line.
+const ROOMY: usize = 2_800;
+
+/// Bytes on either side of a buffer that have to stay as they are.
+const GUARD: usize = 64;
+
+pub struct Difference {
+    pub asked: String,
+    pub model: String,
+    pub library: String,
+}
+
+/// How much was compared without a difference, or the first difference.
+pub type Compared = Result<u64, Difference>;
+
+/// The report of one text with more room than it takes, and its print with just enough.
+pub fn whole(text: &[u8], outcome: &Outcome) -> Compared {
+    let length = outcome.print(ROOMY).map_or(0, <[u8]>::len);
+    report_in(text, outcome, length + 20)?;
+    print_in(text, outcome, length)?;
+    Ok(2)
+}
+
+/// Every method up to two past the last and every position up to two past the end, and numbers at
+/// the ends of what their types hold.
+pub fn answers(text: &[u8], outcome: &Outcome) -> Compared {
+    let tasks = outcome.rows().len();
+    let positions: Vec<u64> = (0..tasks as u64 + 3).collect();
+    let mut compared = 0;
+    for method in 0..METHODS + 2 {
+        compared += answers_at(text, outcome, &[method], &positions)?;
+    }
+    let ends = [u64::MAX, 1 << 63, 1 << 32, 1 << 31, 1 << 16, 1 << 8];
+    compared += answers_at(text, outcome, &[0, 5, 6], &ends)?;
+    compared += answers_at(text, outcome, &ends, &[0, tasks as u64, u64::MAX])?;
+    Ok(compared)
+}
+
+fn answers_at(text: &[u8], outcome: &Outcome, methods: &[u64], positions: &[u64]) -> Compared {
+    for method in methods {
+        for position in positions {
+            answer(text, outcome, *method, *position)?;
+        }
+    }
+    Ok((methods.len() * positions.len()) as u64)
+}
+
+pub fn answer(text: &[u8], outcome: &Outcome, method: u64, position: u64) -> Compared {
+    let expected = outcome.answer(method, position);
+    let given = library::answer(text, method, position);
+    if given == expected {
+        return Ok(1);
+    }
+    Err(Difference {
+        asked: format!("answer of method {method} at position {position}"),
+        model: code_in_words(expected),
+        library: code_in_words(given),
+    })
+}
+
+/// The report into buffers of every length up to three past it.
+pub fn report_rooms(text: &[u8], outcome: &Outcome) -> Compared {
+    let most = outcome.report(ROOMY).map_or(20, <[u8]>::len) + 3;
+    (0..=most).map(|room| report_in(text, outcome, room)).sum()
+}
+
+/// The print into buffers of every length up to three past it.
+pub fn print_rooms(text: &[u8], outcome: &Outcome) -> Compared {
+    let most = outcome.print(ROOMY).map_or(20, <[u8]>::len) + 3;
+    (0..=most).map(|room| print_in(text, outcome, room)).sum()
+}
+
+fn report_in(text: &[u8], outcome: &Outcome, room: usize) -> Compared {
+    let call = |out: &mut [u8]| library::report(text, out);
+    written("report", room, outcome.report(room), call)
+}
+
+fn print_in(text: &[u8], outcome: &Outcome, room: usize) -> Compared {
+    let call = |out: &mut [u8]| library::print(text, out);
+    written("print", room, outcome.print(room), call)
+}
+
+fn written(
+    what: &str,
+    room: usize,
+    expected: Result<&[u8], Refusal>,
+    call: impl FnOnce(&mut [u8]) -> u64,
+) -> Compared {
+    let mut model = pattern(room);
+    let model_code = match expected {
+        Ok(bytes) => {
+            model[GUARD..GUARD + bytes.len()].copy_from_slice(bytes);
+            bytes.len() as u64
+        }
+        Err(refusal) => refusal.code(),
+    };
+    let mut library = pattern(room);
+    let library_code = call(&mut library[GUARD..GUARD + room]);
+    if model_code == library_code && model == library {
+        return Ok(1);
+    }
+    Err(Difference {
+        asked: format!("{what} into {room} bytes"),
+        model: written_in_words(model_code, &model, room),
+        library: written_in_words(library_code, &library, room),
+    })
+}
+
+/// What a buffer and its guards hold before a call: bytes that no report has, and no two
+/// neighbours alike.
+fn pattern(room: usize) -> Vec<u8> {
+    PATTERN[..room + 2 * GUARD].to_vec()
+}
+
+static PATTERN: [u8; ROOMY + 2 * GUARD] = {
+    let mut pattern = [0; ROOMY + 2 * GUARD];
+    let mut at = 0;
+    while at < pattern.len() {
+        pattern[at] = 0x80 | (at * 29) as u8;
+        at += 1;
+    }
+    pattern
+};
+
+fn code_in_words(code: u64) -> String {
+    match (code >> 32, code & 0xffff_ffff) {
+        (0, 0) => "unschedulable".to_string(),
+        (0, response) => format!("{response} ticks"),
+        (number, line) => format!("refusal {number}, line {line}"),
+    }
+}
+
+fn written_in_words(code: u64, buffer: &[u8], room: usize) -> String {
+    let clean = pattern(room);
+    let touched = |at: &usize| buffer[*at] != clean[*at];
+    let first = (0..buffer.len()).find(touched);
+    let last = (0..buffer.len()).rfind(touched);
+    let bytes = match (first, last) {
+        (Some(first), Some(last)) => {
+            let place = first as i64 - GUARD as i64;
+            let bytes = buffer[first..=last].escape_ascii();
+            format!("bytes from {place} on: {bytes}")
+        }
+        _ => "nothing written".to_string(),
+    };
+    match (code >> 32, code & 0xffff_ffff) {
+        (0, length) => format!("length {length}, {bytes}"),
+        (number, line) => format!("refusal {number}, line {line}, {bytes}"),
+    }
+}
+
+/// One of the comparisons above.
+pub type Check = fn(&[u8], &Outcome) -> Compared;
+
+/// Whether a text shows a difference: what the shrinking goes by.
+pub fn differs(check: Check, text: &[u8], error: Option<Error>) -> Option<Difference> {
+    check(text, &Outcome::of(text, error)).err()
+}
+
+#[cfg(test)]
+mod tests {
+    use super::*;
+
+    fn written_by(room: usize, call: impl FnOnce(&mut [u8]) -> u64) -> bool {
+        written("report", room, Ok(b"ab"), call).is_ok()
+    }
+
+    #[test]
+    fn a_byte_too_many_is_seen() {
+        let good = |out: &mut [u8]| {
+            out[..2].copy_from_slice(b"ab");
+            2
+        };
+        assert!(written_by(3, good));
+        let beyond = |out: &mut [u8]| {
+            out[2] = b'c';
+            good(out)
+        };
+        assert!(!written_by(3, beyond));
+        assert!(!written_by(3, |out| good(out) + 1));
+    }
+
+    #[test]
+    fn a_refusal_that_writes_is_seen() {
+        let refused = |call: fn(&mut [u8]) -> u64| {
+            let expected = Err(Refusal::new(14, 0));
+            written("report", 1, expected, call).is_ok()
+        };
+        assert!(refused(|_| 14 << 32));
+        assert!(!refused(|_| 14 << 32 | 1));
+        assert!(!refused(|out| {
+            out[0] = b'a';
+            14 << 32
+        }));
+    }
+}

@@ -1,0 +1,146 @@
+//! The worked figures of the rules, and the values they give.
+
+use crate::model::Refusal;
+
+/// What is asked of a text, and the value that the rules give for it.
+pub enum Expected {
+    /// Method, position and the response.
+    Response(u64, u64, u64),
+    /// Method and position: unschedulable.
+    NoResponse(u64, u64),
+    Report(String),
+    ReportLength(usize),
+    Refused(Refusal),
+}
+
+pub struct Figure {
+    pub name: &'static str,
+    pub text: Vec<u8>,
+    pub expected: Expected,
+}
+
+const A: &str = "K 4 1|T a 1 20 20 0 0 0 f|T b 2 40 40 0 0 3 f|T c 2 60 60 0 0 c f|";
+const B: &str = "K 4 1|T a 1 20 20 0 0 0 3|T b 2 40 40 0 0 0 c|T c 2 60 60 0 0 f f|";
+const M: &str = "K 8 1|T a 1 20 20 0 0 00 0f|T b 2 40 40 0 0 03 30|T c 2 60 60 0 0 3c 3c|";
+const P: &str = "K 4 0|T a 2 5 5 0 0 0 0|T b 3 8 8 0 0 0 0|";
+
+const A_REPORT: &str = "R a 20 1 1 1 1 1 1|R b 40 3 7 5 5 5 5|R c 60 5 13 9 11 9 9|\
+                        V yes yes yes yes yes yes|";
+
+/// Stands for the text with blanks for tabs and bars for LFs.
+fn text(spelled: &str) -> Vec<u8> {
+    spelled.replace(' ', "\t").replace('|', "\n").into_bytes()
+}
+
+pub fn table_m() -> Vec<u8> {
+    text(M)
+}
+
+pub fn table_p() -> Vec<u8> {
+    text(P)
+}
+
+/// The longest report there is: 32 tasks, each number of nine digits, all in time.
+pub fn longest_report() -> Vec<u8> {
+    let mut spelled = "K 4 0|T longest-name 100000000 250000000 250000000 0 0 0 0|".to_string();
+    for index in 0..31 {
+        let task = format!("T longest-na{index:02} 1 250000000 250000000 0 0 0 0|");
+        spelled.push_str(&task);
+    }
+    text(&spelled)
+}
+
+/// Table A with lines added below it up to `length` bytes.
+fn padded(length: usize) -> Vec<u8> {
+    let mut padded = text(A);
+    padded.resize(length - 1, b'x');
+    padded.push(b'\n');
+    padded
+}
+
+pub fn all() -> Vec<Figure> {
+    let mut figures = responses();
+    figures.extend(reports());
+    figures.extend(refusals());
+    figures
+}
+
+fn responses() -> Vec<Figure> {
+    use Expected::{NoResponse, Response};
+    let a_c_9 = A.replace("60 60", "60 9");
+    let a_c_8 = A.replace("60 60", "60 8");
+    let b_c_10 = B.replace("60 60", "60 10");
+    let p_b_6 = P.replace("8 8", "8 6");
+    let p_a_jitter = P.replace("5 5 0", "5 5 1");
+    let p_both_jitter = p_a_jitter.replace("8 8 0", "8 7 1");
+    let p_blocked = P.replace("8 8 0 0", "8 8 0 1");
+    let p_blocked_7 = P.replace("8 8 0 0", "8 7 0 1");
+    let p_no_limit = P.replace("8 8 0", "8 8 8");
+    let rows: Vec<(&'static str, &str, Expected)> = vec![
+        ("A, c, method 3", A, Response(3, 2, 11)),
+        ("A, c, method 4", A, Response(4, 2, 9)),
+        ("A, c, method 5", A, Response(5, 2, 9)),
+        ("A, D of c = 9, method 5", &a_c_9, Response(5, 2, 9)),
+        ("A, D of c = 8, method 5", &a_c_8, NoResponse(5, 2)),
+        ("B, c, method 3", B, Response(3, 2, 9)),
+        ("B, c, method 4", B, Response(4, 2, 11)),
+        ("B, c, method 5", B, Response(5, 2, 9)),
+        ("B, D of c = 10, method 4", &b_c_10, NoResponse(4, 2)),
+        ("B, D of c = 10, method 5", &b_c_10, Response(5, 2, 9)),
+        ("B, c, method 2", B, Response(2, 2, 13)),
+        ("M, c, method 3", M, Response(3, 2, 11)),
+        ("M, c, method 4", M, Response(4, 2, 11)),
+        ("M, c, method 5", M, Response(5, 2, 11)),
+        ("P, b, method 0", P, Response(0, 1, 5)),
+        ("P, D of b = 6", &p_b_6, Response(0, 1, 5)),
+        ("P, J of a = 1", &p_a_jitter, Response(0, 1, 7)),
+        ("P, J 1, D of b = 7", &p_both_jitter, NoResponse(0, 1)),
+        ("P, B of b = 1", &p_blocked, Response(0, 1, 8)),
+        ("P, B of b = 1, D 7", &p_blocked_7, NoResponse(0, 1)),
+        ("P, J of b = 8", &p_no_limit, NoResponse(0, 1)),
+    ];
+    let figures = rows.into_iter().map(|(name, spelled, expected)| Figure {
+        name,
+        text: text(spelled),
+        expected,
+    });
+    figures.collect()
+}
+
+fn reports() -> Vec<Figure> {
+    let report = String::from_utf8_lossy(&text(A_REPORT)).into_owned();
+    vec![
+        Figure {
+            name: "A, whole report",
+            text: text(A),
+            expected: Expected::Report(report),
+        },
+        Figure {
+            name: "the longest report",
+            text: longest_report(),
+            expected: Expected::ReportLength(2_746),
+        },
+    ]
+}
+
+fn refusals() -> Vec<Figure> {
+    let refused = |name, text, number, line| Figure {
+        name,
+        text,
+        expected: Expected::Refused(Refusal::new(number, line)),
+    };
+    let changed = |from: &str, to: &str| text(&A.replace(from, to));
+    let a_longer = [longest_report(), text("T a 1 20 20 0 0 0 f|")].concat();
+    vec![
+        refused("16,384 bytes", padded(16_384), 3, 5),
+        refused("16,385 bytes", padded(16_385), 1, 0),
+        refused("no bytes", Vec::new(), 2, 0),
+        refused("007 on line 1", changed("K 4 1", "K 4 007"), 5, 1),
+        refused("007 on a task line", changed("a 1", "a 007"), 5, 2),
+        refused("6 sets", changed("K 4", "K 6"), 6, 1),
+        refused("CR on line 1", changed("K 4 1", "K 4 1\r"), 5, 1),
+        refused("CR on a task line", changed("3 f", "3 f\r"), 7, 3),
+        refused("a 33rd task line", a_longer, 10, 34),
+        refused("no task line", text("K 4 1|"), 11, 1),
+    ]
+}

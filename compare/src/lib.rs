@@ -1,0 +1,13 @@
+//! Holds the proved cache pre-emption analysis against an independent one, and times it.
+
+pub mod checks;
+pub mod classes;
+pub mod damage;
+pub mod entry;
+pub mod figures;
+pub mod generate;
+pub mod library;
+pub mod model;
+pub mod plain;
+pub mod random;
+pub mod shrink;

@@ -1,0 +1,411 @@
+//! Compares the library with the model. See README.md.
+
+#![no_main]
+
+use crpd_compare::checks::{self, Check, Difference};
+use crpd_compare::classes::Classes;
+use crpd_compare::figures::{self, Expected, Figure};
+use crpd_compare::generate::{self, Table, TIME_MOST};
+use crpd_compare::model::{Error, Outcome};
+use crpd_compare::random::Random;
+use crpd_compare::shrink::shrink;
+use crpd_compare::{damage, library};
+
+crpd_compare::entry!(run);
+
+const USAGE: &str = "usage: compare [--error 1|2|3|4|5|5b|6] [--percent N] [--longest TICKS]";
+const SEED: u64 = 0x5eed;
+
+/// Differences of one group that are told; the others are only counted.
+const TOLD_MOST: u64 = 1;
+
+struct Options {
+    error: Option<Error>,
+    /// How many of the made-up texts are taken, of 100.
+    percent: u64,
+    /// The longest deadline below tasks that take the whole processor.
+    longest: u64,
+}
+
+impl Options {
+    fn parse(words: &[String]) -> Option<Options> {
+        let mut options = Options {
+            error: None,
+            percent: 100,
+            longest: if library::IS_LINKED {
+                TIME_MOST
+            } else {
+                50_000
+            },
+        };
+        for pair in words.chunks(2) {
+            match (pair[0].as_str(), pair.get(1)?.as_str()) {
+                ("--error", name) => options.error = Some(Error::named(name)?),
+                ("--percent", number) => options.percent = number.parse().ok()?,
+                ("--longest", number) => options.longest = number.parse().ok()?,
+                _ => return None,
+            }
+        }
+        let good =
+            (1..=100).contains(&options.percent) && (1_000..=TIME_MOST).contains(&options.longest);
+        good.then_some(options)
+    }
+
+    fn share(&self, texts: u64) -> u64 {
+        (texts * self.percent / 100).max(1)
+    }
+}
+
+fn run(words: &[String]) -> i32 {
+    let options = match Options::parse(words) {
+        Some(options) => options,
+        None => {
+            eprintln!("{USAGE}");
+            return 2;
+        }
+    };
+    println!(
+        "the model against the {} code, seed {SEED:#x}",
+        library::NAME
+    );
+    let mut comparison = Comparison {
+        options,
+        random: Random::new(SEED),
+        classes: Classes::new(),
+        passed: 0,
+        failed: 0,
+    };
+    comparison.run();
+    println!("{} passed, {} failed", comparison.passed, comparison.failed);
+    i32::from(comparison.failed != 0)
+}
+
+struct Comparison {
+    options: Options,
+    random: Random,
+    classes: Classes,
+    passed: u64,
+    failed: u64,
+}
+
+/// Makes a table up.
+type Draw<'a> = &'a dyn Fn(&mut Random) -> Table;
+
+struct ValidTexts {
+    common: Vec<Vec<u8>>,
+    /// At the ends of the ranges, or hard to answer.
+    extreme: Vec<Vec<u8>>,
+}
+
+/// One of the counted groups of comparisons.
+struct Group {
+    name: &'static str,
+    texts: u64,
+    compared: u64,
+    differences: u64,
+}
+
+impl Group {
+    fn new(name: &'static str) -> Group {
+        Group {
+            name,
+            texts: 0,
+            compared: 0,
+            differences: 0,
+        }
+    }
+}
+
+impl Comparison {
+    fn run(&mut self) {
+        if self.options.error.is_some() {
+            // a wrong model has to be told by the made-up tables alone
+            self.valid_texts();
+            return;
+        }
+        self.figures();
+        let valid = self.valid_texts();
+        let spoiled = self.spoiled_texts();
+        let altered = self.altered_texts(&valid);
+        let refused = [spoiled, altered].concat();
+        self.answers(&valid, &refused);
+        self.rooms(&valid, &refused);
+        if self.options.percent == 100 {
+            self.class_counts();
+        }
+    }
+
+    fn figures(&mut self) {
+        let mut group = Group::new("worked figures");
+        for figure in figures::all() {
+            group.texts += 1;
+            let outcome = Outcome::of(&figure.text, self.options.error);
+            for (who, agrees) in verdicts(&figure, &outcome) {
+                group.compared += 1;
+                if !agrees {
+                    group.differences += 1;
+                    println!("mismatch: worked figure \"{}\": {who} differs", figure.name);
+                }
+            }
+        }
+        self.close(group);
+    }
+
+    fn valid_texts(&mut self) -> ValidTexts {
+        let longest = self.options.longest;
+        let common = self.drawn(&[
+            (2_500, &generate::small),
+            (2_000, &generate::loaded),
+            (1_600, &generate::unions),
+            (1_800, &generate::near_limit),
+        ]);
+        let mut extreme = self.drawn(&[
+            (1_000, &|random| generate::edges(random, longest)),
+            (200, &|random| generate::full(random, longest)),
+            (30, &generate::largest),
+        ]);
+        extreme.push(figures::longest_report());
+        if self.options.error.is_none() {
+            extreme.extend(hard_texts(longest));
+        }
+        let mut group = Group::new("valid texts");
+        for text in common.iter().chain(&extreme) {
+            let outcome = self.compare(&mut group, checks::whole, text);
+            self.reach_valid(text, &outcome);
+        }
+        self.close(group);
+        ValidTexts { common, extreme }
+    }
+
+    fn drawn(&mut self, families: &[(u64, Draw)]) -> Vec<Vec<u8>> {
+        let mut texts = Vec::new();
+        for (count, family) in families {
+            let share = self.options.share(*count);
+            texts.extend((0..share).map(|_| family(&mut self.random).text()));
+        }
+        texts
+    }
+
+    fn reach_valid(&mut self, text: &[u8], outcome: &Outcome) {
+        match outcome.table() {
+            Some(table) => self.classes.reach_table(table, outcome.rows()),
+            None => panic!("a made-up table is refused: {}", text.escape_ascii()),
+        }
+    }
+
+    fn spoiled_texts(&mut self) -> Vec<Vec<u8>> {
+        let mut group = Group::new("texts spoiled for a known reason");
+        let mut reasons = Group::new("refusals as the spoiling meant them");
+        let mut texts = Vec::new();
+        for plan in damage::plans() {
+            self.classes.require(&plan.name());
+            for _ in 0..self.options.share(40) {
+                let spoiled = plan.spoil(&mut self.random);
+                let outcome = self.compare(&mut group, checks::whole, &spoiled.text);
+                reasons.texts += 1;
+                reasons.compared += 1;
+                if outcome.refusal() == Some(spoiled.refusal) {
+                    self.classes.reach(&spoiled.plan);
+                } else {
+                    reasons.differences += 1;
+                    if reasons.differences <= TOLD_MOST {
+                        tell_wrong_reason(&spoiled, &outcome);
+                    }
+                }
+                texts.push(spoiled.text);
+            }
+        }
+        self.close(group);
+        self.close(reasons);
+        texts
+    }
+
+    fn altered_texts(&mut self, valid: &ValidTexts) -> Vec<Vec<u8>> {
+        let mut group = Group::new("texts altered at random");
+        let mut texts = Vec::new();
+        for _ in 0..self.options.share(6_000) {
+            let text = self.random.pick(&valid.common);
+            texts.push(damage::altered(&mut self.random, text));
+        }
+        for _ in 0..self.options.share(500) {
+            texts.push(damage::about_longest(&mut self.random));
+        }
+        for text in &texts {
+            let outcome = self.compare(&mut group, checks::whole, text);
+            if let Some(refusal) = outcome.refusal() {
+                self.classes.reach_refusal(refusal.number);
+            }
+        }
+        self.close(group);
+        texts
+    }
+
+    fn answers(&mut self, valid: &ValidTexts, refused: &[Vec<u8>]) {
+        let mut group = Group::new("single answers");
+        let texts = spread(&valid.common, 1_800).chain(spread(&valid.extreme, 200));
+        for text in texts.chain(spread(refused, 600)) {
+            let outcome = self.compare(&mut group, checks::answers, text);
+            self.reach_answers(&outcome);
+        }
+        self.close(group);
+    }
+
+    fn reach_answers(&mut self, outcome: &Outcome) {
+        for (method, position) in [(6, 0), (0, u64::MAX)] {
+            let number = outcome.answer(method, position) >> 32;
+            self.classes.reach_refusal(number);
+        }
+        if outcome.refusal().is_some() {
+            self.classes.reach("12 before a refusal of the text");
+            self.classes.reach("a refusal of the text before 13");
+        } else {
+            self.classes.reach("12 before 13");
+        }
+    }
+
+    fn rooms(&mut self, valid: &ValidTexts, refused: &[Vec<u8>]) {
+        let short = valid.common.iter().filter(|text| text.len() < 400);
+        let short: Vec<Vec<u8>> = short.cloned().collect();
+        let texts = spread(&short, 300).chain(spread(refused, 100));
+        let texts: Vec<&Vec<u8>> = texts.collect();
+        let mut group = Group::new("reports into buffers of every length");
+        for text in &texts {
+            let outcome = self.compare(&mut group, checks::report_rooms, text);
+            match outcome.refusal() {
+                Some(_) => self.classes.reach("a refusal of the text before 14"),
+                None => self.classes.reach_refusal(14),
+            }
+        }
+        self.close(group);
+        let mut group = Group::new("prints into buffers of every length");
+        for text in &texts {
+            self.compare(&mut group, checks::print_rooms, text);
+        }
+        self.close(group);
+    }
+
+    fn compare(&mut self, group: &mut Group, check: Check, text: &[u8]) -> Outcome {
+        let outcome = Outcome::of(text, self.options.error);
+        group.texts += 1;
+        match check(text, &outcome) {
+            Ok(compared) => group.compared += compared,
+            Err(difference) => {
+                group.compared += 1;
+                group.differences += 1;
+                if group.differences <= TOLD_MOST {
+                    self.tell(group.name, check, text, difference);
+                }
+            }
+        }
+        outcome
+    }
+
+    fn tell(&self, group: &str, check: Check, text: &[u8], difference: Difference) {
+        let differs = |text: &[u8]| checks::differs(check, text, self.options.error);
+        let least = shrink(text, &|text| differs(text).is_some());
+        let difference = differs(&least).unwrap_or(difference);
+        println!("mismatch: {group}: {}", difference.asked);
+        println!("  model:   {}", difference.model);
+        println!("  library: {}", difference.library);
+        println!("  the smallest text that shows it ({} bytes):", least.len());
+        for line in least.split_inclusive(|byte| *byte == b'\n') {
+            println!("    {}", line.escape_ascii());
+        }
+    }
+
+    fn class_counts(&mut self) {
+        let told = |name: &str| {
+            let unions = name.contains("Union") || name.contains("union");
+            unions || name.starts_with("refusal")
+        };
+        for line in self.classes.lines(told) {
+            println!("{line}");
+        }
+        let mut group = Group::new("classes that had to be reached");
+        group.texts = self.classes.len() as u64;
+        group.compared = group.texts;
+        for name in self.classes.missed() {
+            group.differences += 1;
+            println!("mismatch: no text reached the class \"{name}\"");
+        }
+        self.close(group);
+    }
+
+    fn close(&mut self, group: Group) {
+        if group.differences == 0 {
+            self.passed += 1;
+        } else {
+            self.failed += 1;
+        }
+        println!(
+            "{:>8} compared in {:>6} of: {}{}",
+            group.compared,
+            group.texts,
+            group.name,
+            match group.differences {
+                0 => String::new(),
+                count => format!(", {count} DIFFER"),
+            }
+        );
+    }
+}
+
+/// Whether the model and the library give what the rules say.
+fn verdicts(figure: &Figure, outcome: &Outcome) -> [(&'static str, bool); 2] {
+    let mut room = vec![0; 4_096];
+    let mut report = || {
+        let length = library::report(&figure.text, &mut room);
+        room.get(..length as usize).unwrap_or(&[]).to_vec()
+    };
+    let answered = |method: u64, position: u64, ticks: u64| {
+        let given = library::answer(&figure.text, method, position);
+        [outcome.answer(method, position) == ticks, given == ticks]
+    };
+    let agree = match &figure.expected {
+        Expected::Response(method, position, ticks) => answered(*method, *position, *ticks),
+        Expected::NoResponse(method, position) => answered(*method, *position, 0),
+        Expected::Report(expected) => {
+            let expected = expected.as_bytes();
+            [outcome.report(4_096) == Ok(expected), report() == expected]
+        }
+        Expected::ReportLength(expected) => {
+            let length = outcome.report(4_096).map(<[u8]>::len);
+            [length == Ok(*expected), report().len() == *expected]
+        }
+        Expected::Refused(refusal) => {
+            let given = library::report(&figure.text, &mut room);
+            let code = refusal.code();
+            [outcome.refusal() == Some(*refusal), given == code]
+        }
+    };
+    [("model", agree[0]), ("library", agree[1])]
+}
+
+/// Tables on which a search from C + B upwards takes longest.
+fn hard_texts(longest: u64) -> Vec<Vec<u8>> {
+    let mut tables = vec![
+        generate::no_tick_left(1, longest),
+        generate::no_tick_left(31, longest),
+    ];
+    for execution in [60, 90] {
+        let mut table = generate::hardly_a_tick_left(1, longest);
+        table.tasks[5].execution = execution;
+        tables.push(table);
+    }
+    tables.iter().map(Table::text).collect()
+}
+
+fn tell_wrong_reason(spoiled: &damage::Spoiled, outcome: &Outcome) {
+    println!(
+        "mismatch: spoiled by \"{}\", meant {:?}, met {:?}: {}",
+        spoiled.plan,
+        spoiled.refusal,
+        outcome.refusal(),
+        spoiled.text.escape_ascii()
+    );
+}
+
+/// About `count` of the texts, evenly spread, or all if there are fewer.
+fn spread(texts: &[Vec<u8>], count: usize) -> impl Iterator<Item = &Vec<u8>> {
+    texts.iter().step_by((texts.len() / count).max(1))
+}

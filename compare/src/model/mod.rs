@@ -1,0 +1,161 @@
+//! The independent implementation of the rules.
+//!
+//! It shares nothing with the proved code but the rules: cache sets are sorted lists of numbers,
+//! unions are asked member by member, the text is taken apart by the standard library, and a
+//! response is found by trying every number where the limit is small.
+
+mod costs;
+mod read;
+mod report;
+mod response;
+
+pub use costs::METHODS;
+pub use read::{read, Table, Task, TASKS_MOST, TEXT_MOST};
+pub use report::{analyse, Analysis, Row};
+
+/// Why something was not given: the refusal's number and the line told.
+#[derive(Clone, Copy, Debug, PartialEq, Eq, PartialOrd, Ord)]
+pub struct Refusal {
+    pub number: u64,
+    pub line: u64,
+}
+
+impl Refusal {
+    pub fn new(number: u64, line: u64) -> Refusal {
+        Refusal { number, line }
+    }
+
+    /// As the library returns it.
+    pub fn code(self) -> u64 {
+        self.number << 32 | self.line
+    }
+}
+
+/// The errors that look reasonable. The model with one of them built in has to be told apart from
+/// the library.
+#[derive(Clone, Copy, Debug, PartialEq, Eq)]
+pub enum Error {
+    /// 1: the search starts from a guess.
+    StartsFromGuess,
+    /// 2: no response where the demand at the limit is above the limit.
+    JudgesAtLimit,
+    /// 3: the combined method takes the smaller cost of each pair in one equation.
+    CombinesPerPair,
+    /// 4: one activation too many where R + J is a multiple of T.
+    CountsOneMore,
+    /// 5: task i is left out of those affected.
+    LeavesOutLowest,
+    /// 5b: task j is put among those affected.
+    PutsInPreempting,
+    /// 6: the response is held against D, not D - J.
+    ForgetsOwnJitter,
+}
+
+impl Error {
+    pub fn named(name: &str) -> Option<Error> {
+        match name {
+            "1" => Some(Error::StartsFromGuess),
+            "2" => Some(Error::JudgesAtLimit),
+            "3" => Some(Error::CombinesPerPair),
+            "4" => Some(Error::CountsOneMore),
+            "5" => Some(Error::LeavesOutLowest),
+            "5b" => Some(Error::PutsInPreempting),
+            "6" => Some(Error::ForgetsOwnJitter),
+            _ => None,
+        }
+    }
+}
+
+/// All that the model has to say of one text.
+pub struct Outcome {
+    accepted: Result<(Table, Analysis), Refusal>,
+    printed: Vec<u8>,
+}
+
+impl Outcome {
+    pub fn of(text: &[u8], error: Option<Error>) -> Outcome {
+        let accepted = read(text).map(|table| {
+            let analysis = analyse(&table, error);
+            (table, analysis)
+        });
+        let printed = match &accepted {
+            Ok((_, analysis)) => analysis.report(),
+            Err(refusal) => format!("E\t{}\t{}\n", refusal.number, refusal.line),
+        };
+        Outcome {
+            accepted,
+            printed: printed.into_bytes(),
+        }
+    }
+
+    pub fn table(&self) -> Option<&Table> {
+        self.accepted.as_ref().ok().map(|(table, _)| table)
+    }
+
+    /// The answers of each task; none of a text that is refused.
+    pub fn rows(&self) -> &[Row] {
+        match &self.accepted {
+            Ok((_, analysis)) => &analysis.rows,
+            Err(_) => &[],
+        }
+    }
+
+    pub fn refusal(&self) -> Option<Refusal> {
+        self.accepted.as_ref().err().copied()
+    }
+
+    /// The response in ticks, 0 for unschedulable, or a refusal's code.
+    pub fn answer(&self, method: u64, position: u64) -> u64 {
+        if method >= METHODS {
+            return Refusal::new(12, 0).code();
+        }
+        if let Some(refusal) = self.refusal() {
+            return refusal.code();
+        }
+        match self.rows().iter().zip(0..).find(|row| row.1 == position) {
+            Some((row, _)) => row.answers[method as usize].unwrap_or(0),
+            None => Refusal::new(13, 0).code(),
+        }
+    }
+
+    /// The report if it fits into `room` bytes.
+    pub fn report(&self, room: usize) -> Result<&[u8], Refusal> {
+        match self.refusal() {
+            Some(refusal) => Err(refusal),
+            None => self.print(room),
+        }
+    }
+
+    /// What the program prints if it fits into `room` bytes.
+    pub fn print(&self, room: usize) -> Result<&[u8], Refusal> {
+        if self.printed.len() <= room {
+            Ok(&self.printed)
+        } else {
+            Err(Refusal::new(14, 0))
+        }
+    }
+}
+
+#[cfg(test)]
+mod tests {
+    use super::*;
+    use crate::figures::{table_m, table_p};
+
+    fn answer(text: &[u8], error: Error, method: u64, position: u64) -> u64 {
+        Outcome::of(text, Some(error)).answer(method, position)
+    }
+
+    #[test]
+    fn the_errors_do_what_the_rules_say_of_them() {
+        assert_eq!(answer(&table_m(), Error::CombinesPerPair, 5, 2), 9);
+        assert_eq!(answer(&table_p(), Error::StartsFromGuess, 0, 1), 7);
+    }
+
+    #[test]
+    fn the_method_is_refused_before_the_text_and_the_text_before_the_position() {
+        let outcome = Outcome::of(b"", None);
+        assert_eq!(outcome.answer(6, 9), 12 << 32);
+        assert_eq!(outcome.answer(5, 9), 2 << 32);
+        assert_eq!(Outcome::of(&table_p(), None).answer(5, 2), 13 << 32);
+    }
+}

@@ -1,0 +1,192 @@
+//! Making a text that shows a mismatch as small as it gets.
+
+use std::cell::Cell;
+
+/// No more texts than this are tried.
+const TRIES: u32 = 4_000;
+
+/// The smallest text found from `text` on for which `shows` still holds.
+pub fn shrink(text: &[u8], shows: &dyn Fn(&[u8]) -> bool) -> Vec<u8> {
+    let tries = Cell::new(0);
+    let still_shows = |smaller: &[u8]| {
+        tries.set(tries.get() + 1);
+        tries.get() <= TRIES && shows(smaller)
+    };
+    let mut least = text.to_vec();
+    loop {
+        let before = least.clone();
+        for smaller in [lines_dropped, cache_shrunk, fields_reduced, bytes_dropped] {
+            least = smaller(least, &still_shows);
+        }
+        if least == before || tries.get() > TRIES {
+            return least;
+        }
+    }
+}
+
+type Shows<'a> = &'a dyn Fn(&[u8]) -> bool;
+
+fn lines_dropped(mut text: Vec<u8>, shows: Shows) -> Vec<u8> {
+    let mut at = 0;
+    loop {
+        let lines: Vec<&[u8]> = text.split_inclusive(|byte| *byte == b'\n').collect();
+        if at >= lines.len() {
+            return text;
+        }
+        let smaller = [lines[..at].concat(), lines[at + 1..].concat()].concat();
+        if shows(&smaller) {
+            text = smaller;
+        } else {
+            at += 1;
+        }
+    }
+}
+
+/// Takes digits off all cache-set fields, and their sets off line 1.
+fn cache_shrunk(mut text: Vec<u8>, shows: Shows) -> Vec<u8> {
+    while let Some(smaller) = first_that_shows(with_fewer_sets(&text), shows) {
+        text = smaller;
+    }
+    text
+}
+
+fn with_fewer_sets(text: &[u8]) -> Vec<Vec<u8>> {
+    let lines = fields_of(text);
+    let sets = lines[0].get(1).and_then(|field| parsed(field)).unwrap_or(0);
+    let digits = (sets / 4).min(64) as usize;
+    let half = (0, digits / 2);
+    let single = (0..digits).map(|at| (at, at + 1));
+    let dropped = std::iter::once(half)
+        .chain(single)
+        .filter(|(from, to)| from < to);
+    let shrunk = dropped.map(|(from, to)| {
+        let mut lines = lines.clone();
+        lines[0][1] = (4 * (digits - (to - from))).to_string().into_bytes();
+        let bitmaps = lines[1..]
+            .iter_mut()
+            .flat_map(|line| line.iter_mut().skip(7));
+        for field in bitmaps.filter(|field| field.len() >= to) {
+            field.drain(from..to);
+        }
+        joined(&lines)
+    });
+    shrunk.collect()
+}
+
+fn fields_reduced(mut text: Vec<u8>, shows: Shows) -> Vec<u8> {
+    let lines = fields_of(&text).len();
+    for line in 0..lines {
+        let mut field = 0;
+        while field < fields_of(&text)[line].len() {
+            match first_that_shows(with_field_reduced(&text, line, field), shows) {
+                Some(smaller) => text = smaller,
+                None => field += 1,
+            }
+        }
+    }
+    text
+}
+
+fn with_field_reduced(text: &[u8], line: usize, field: usize) -> Vec<Vec<u8>> {
+    let lines = fields_of(text);
+    let reduced = reductions(&lines[line][field], field);
+    let reduced = reduced.into_iter().map(|smaller| {
+        let mut lines = lines.clone();
+        lines[line][field] = smaller;
+        keep_in_order(&mut lines[line]);
+        joined(&lines)
+    });
+    reduced.collect()
+}
+
+/// Lowers the deadline to the period and the jitter to the deadline, which would otherwise keep
+/// each other from getting smaller.
+fn keep_in_order(fields: &mut [Vec<u8>]) {
+    for at in [4, 5] {
+        let bound = fields.get(at - 1).and_then(|field| parsed(field));
+        let value = fields.get(at).and_then(|field| parsed(field));
+        if let (Some(bound), Some(value)) = (bound, value) {
+            if value > bound {
+                fields[at] = bound.to_string().into_bytes();
+            }
+        }
+    }
+}
+
+fn reductions(field: &[u8], place: usize) -> Vec<Vec<u8>> {
+    if place >= 7 {
+        let zeroed = |from: usize, to: usize| {
+            let mut smaller = field.to_vec();
+            smaller[from..to].fill(b'0');
+            smaller
+        };
+        let digits = (0..field.len()).map(|at| (at, at + 1));
+        let stretches = std::iter::once((0, field.len())).chain(digits);
+        let reduced = stretches.map(|(from, to)| zeroed(from, to));
+        return reduced.filter(|smaller| smaller != field).collect();
+    }
+    match parsed(field) {
+        Some(value) => {
+            let steps = (0..)
+                .map(|power| value >> power)
+                .take_while(|step| *step > 0);
+            let smaller = steps.map(|step| value - step);
+            let smaller = [0, 1]
+                .into_iter()
+                .filter(|least| *least < value)
+                .chain(smaller);
+            smaller
+                .map(|value| value.to_string().into_bytes())
+                .collect()
+        }
+        None if field.len() > 1 => vec![field[..1].to_vec(), field[1..].to_vec()],
+        None => Vec::new(),
+    }
+}
+
+fn bytes_dropped(mut text: Vec<u8>, shows: Shows) -> Vec<u8> {
+    let mut length = text.len() / 2;
+    while length > 0 {
+        let mut at = 0;
+        while at + length <= text.len() {
+            let smaller = [&text[..at], &text[at + length..]].concat();
+            if shows(&smaller) {
+                text = smaller;
+            } else {
+                at += length;
+            }
+        }
+        length /= 2;
+    }
+    text
+}
+
+fn first_that_shows(texts: Vec<Vec<u8>>, shows: Shows) -> Option<Vec<u8>> {
+    texts.into_iter().find(|text| shows(text))
+}
+
+fn fields_of(text: &[u8]) -> Vec<Vec<Vec<u8>>> {
+    let fields = |line: &[u8]| line.split(|byte| *byte == b'\t').map(Vec::from).collect();
+    text.split(|byte| *byte == b'\n').map(fields).collect()
+}
+
+fn joined(lines: &[Vec<Vec<u8>>]) -> Vec<u8> {
+    let lines: Vec<Vec<u8>> = lines.iter().map(|line| line.join(&b'\t')).collect();
+    lines.join(&b'\n')
+}
+
+fn parsed(field: &[u8]) -> Option<u64> {
+    std::str::from_utf8(field).ok()?.parse().ok()
+}
+
+#[cfg(test)]
+mod tests {
+    use super::*;
+
+    #[test]
+    fn what_shows_the_mismatch_is_left() {
+        let text = b"K\t8\t1\nT\tname\t17\t40\t40\t0\t0\t33\tff\nT\tb\t9\t9\t9\t0\t0\t00\t00\n";
+        let shows = |text: &[u8]| text.windows(2).any(|pair| pair == b"17");
+        assert_eq!(shrink(text, &shows), b"17");
+    }
+}

@@ -1,0 +1,201 @@
+-- What the code hands to the iteration is what the definition names. Assumes nothing.
+use Prim.Native.Nat.{ℕ, _+_, _-_, _*_, _≤_, _<_}
+use native.Mathlib.Omega.{arith}
+use mathlib.Core.Path.{_≡_, refl, ap, ap₂, _∙_}
+use mathlib.Core.Bool.{Bool, true, false, cond}
+use mathlib.Core.List.{List, map}
+use lib.Dec.{eqb}
+use lib.ListN.{length, getD, drop, length-take, length-drop}
+use lib.Seq.{getD-take, getD-drop}
+use borrow.Author.Tests.{eq-eqb, ne-eqb, eqb-false}
+use Rattle.sets.specs.Words.{members}
+use Rattle.sets.specs.Stored.{setAt}
+use Rattle.response.specs.declared.Response.{Response}
+use Rattle.response.specs.declared.Cell.{Cell}
+use Rattle.response.specs.Demand.{demandOf}
+use Rattle.response.specs.Flat.{flat, Handed}
+use Rattle.response.specs.Least.{leastOf, LeastWithin, sooner}
+use Rattle.response.specs.Positions.{hp}
+use Rattle.response.proofs.PositionLaws.{map-same}
+use Rattle.response.proofs.LeastLaws.{leastOf-least}
+use Rattle.response.proofs.DemandLaws.{demand-same}
+use Rattle.table.specs.declared.Table.{Table}
+use Rattle.table.specs.Accepted.{AcceptedTable}
+use Rattle.costs.specs.Costs.{ucb, ecb, reloadsOf, termAt}
+use Rattle.costs.specs.Lent.{Lent, weightIn, place, Weighed, Pairs}
+use Rattle.costs.proofs.LentLaws.{front-at, front-long}
+use Rattle.costs.proofs.OrderLaws.{reloads-same, term-ranged}
+use Rattle.analysis.specs.Analysis.{ownOf, limitOf, answerOf, withCombined, responseOf, methods, cell, rowOf}
+use Rattle.analysis.specs.Lists.{Numbers, Sets, leastIn, weightsIn, singleIn, TaskHanded, rowAt, answerIn, rowIn, RowHanded, RowsHanded}
+
+-- what an answer means
+pub answer-means : (table : Table) (m i : ℕ) → LeastWithin (demandOf (ownOf table i) (termAt table m i) i) (limitOf table i) (answerOf table m i)
+unfolding answerOf
+answer-means table m i = leastOf-least _ _
+
+-- ---- method 5
+
+pub combined-at : (A : ℕ → Response) (m : ℕ) → m ≡ 5 → sooner (A 3) (A 4) ≡ withCombined A m
+combined-at A m e = simp (eq-eqb _ _ e)
+
+pub combined-below : (A : ℕ → Response) (m : ℕ) → m < 5 → A m ≡ withCombined A m
+combined-below A m h = simp (ne-eqb m 5 (λ e. omega arith))
+
+pub combined-same : (A B : ℕ → Response) (m : ℕ) → m ≤ 5 → ((k : ℕ) → k ≤ 4 → A k ≡ B k) → withCombined A m ≡ withCombined B m
+combined-same A B m h p = go (eqb m 5) refl
+  where
+    go : (t : Bool) → eqb m 5 ≡ t → cond t (sooner (A 3) (A 4)) (A m) ≡ cond t (sooner (B 3) (B 4)) (B m)
+    go true e = ap₂ sooner (p 3 (omega arith)) (p 4 (omega arith))
+    go false e = p m (below (eqb-false m 5 e))
+      where
+        below : (m ≡ 5 → ⊥) → m ≤ 4
+        below n = omega arith
+
+pub cells-same : (A B : ℕ → Response) → ((m : ℕ) → m ≤ 4 → A m ≡ B m)
+    → map (λ m. cell (withCombined A m)) methods ≡ map (λ m. cell (withCombined B m)) methods
+cells-same A B p =
+    let a = p 0 (omega arith) in
+    let b = p 1 (omega arith) in
+    let c = p 2 (omega arith) in
+    let d = p 3 (omega arith) in
+    let e = p 4 (omega arith) in
+    cc
+
+-- ---- the answer by lists
+
+-- what is lent of the first k tasks
+pub lent : (table : Table) → AcceptedTable table → (n k : ℕ) → k ≤ n → n ≤ table .count → (ps js ws os ls : List ℕ) → Numbers table n ps js ws os ls
+    → (us es : List ℕ) → Sets table n us es → Lent ws us es (table .brt .0) k
+lent table accepted n k h held ps js ws os ls numbers us es sets =
+    let few = accepted .few in
+    record {
+      few = omega arith;
+      brt-most = accepted .brt;
+      works-long = omega (arith, numbers .work .long);
+      ucb-long = omega (arith, sets .ucb-long);
+      ecb-long = omega (arith, sets .ecb-long);
+      works-most = λ j l. rw (numbers .work .each j (omega arith)) (accepted .tasks j (omega arith) .work .1);
+    }
+
+-- C of j and the time of its reloads
+abbrev weightAt : Table → ℕ → ℕ → ℕ → ℕ
+weightAt table m i j = termAt table m i j .weight
+
+module _ (table : Table) (accepted : AcceptedTable table) (n i : ℕ) (here : i < n) (held : n ≤ table .count) (ps js ws os ls : List ℕ)
+    (numbers : Numbers table n ps js ws os ls) where
+  term-is : (m : ℕ) (vs : List ℕ) → ((j : ℕ) → j < i → getD vs j 0 ≡ weightAt table m i j) → (j : ℕ) → j < i → flat ps js vs j ≡ termAt table m i j
+  term-is m vs e j l = rw (numbers .period .each j (omega arith), numbers .jitter .each j (omega arith), e j l)
+
+  handed-by : (m : ℕ) (vs : List ℕ) → ((j : ℕ) → j < i → getD vs j 0 ≡ weightAt table m i j) → i ≤ length vs
+      → Handed (getD os i 0) ps js vs i (getD ls i 0)
+  handed-by m vs e l =
+      let few = accepted .few in
+      let q = accepted .tasks i (omega arith) in
+      let o = numbers .own .each i here in
+      let d = numbers .limit .each i here in
+      record {
+        few = omega arith;
+        own-least = omega (arith, q .work, q .blocking);
+        own-most = omega (arith, q .work, q .blocking);
+        time = omega (arith, q .deadline, q .period);
+        periods = omega (arith, numbers .period .long);
+        jitters = omega (arith, numbers .jitter .long);
+        weights = l;
+        ranged = λ j h. rw (term-is m vs e j h) (term-ranged table m i j accepted (omega arith));
+      }
+
+  least-by : (m : ℕ) (vs : List ℕ) → ((j : ℕ) → j < i → getD vs j 0 ≡ weightAt table m i j)
+      → leastIn (getD os i 0) (getD ls i 0) i ps js vs ≡ answerOf table m i
+  unfolding leastIn answerOf
+  least-by m vs e =
+      rw (numbers .own .each i here, numbers .limit .each i here)
+      (ap (λ (f : ℕ → ℕ). leastOf f (limitOf table i)) (demand-same (ownOf table i) _ _ i (term-is m vs e)))
+
+  -- method 0 needs no sets
+  plain : (j : ℕ) → j < i → getD ws j 0 ≡ weightAt table 0 i j
+  unfolding reloadsOf
+  plain j l = numbers .work .each j (omega arith) ∙ omega arith
+
+  pub plain-handed : Handed (getD os i 0) ps js ws i (getD ls i 0)
+  plain-handed = let few = accepted .few in handed-by 0 ws plain (omega (arith, numbers .work .long))
+
+  pub plain-is : (m : ℕ) → m ≡ 0 → leastIn (getD os i 0) (getD ls i 0) i ps js ws ≡ responseOf table m i
+  unfolding responseOf
+  plain-is m e = least-by 0 ws plain ∙ rw e (combined-below (λ k. answerOf table k i) 0 (omega arith))
+
+  -- no method's weights are below those of method 0
+  plain-least : (m j : ℕ) → weightAt table 0 i j ≤ weightAt table m i j
+  unfolding reloadsOf
+  plain-least m j = omega arith
+
+  module _ (us es : List ℕ) (sets : Sets table n us es) where
+    weight-is : (m j : ℕ) → j < i → weightIn ws (table .brt .0) us es m i j ≡ weightAt table m i j
+    weight-is m j l =
+        ap₂ (λ (c g : ℕ). c + table .brt .0 * g) (numbers .work .each j (omega arith))
+        (reloads-same (setAt us) (setAt es) (ucb table) (ecb table) m i j l
+        (λ k h. ap members (sets .ucbs k (omega arith)))
+        (λ k h. ap members (sets .ecbs k (omega arith))))
+
+    -- ---- one task
+
+    weights-are : (m j : ℕ) → j < i → getD (weightsIn ws us es (table .brt .0) i m) j 0 ≡ weightAt table m i j
+    weights-are m j l = front-at _ i j l ∙ weight-is m j l
+
+    pub task-handed : TaskHanded (getD os i 0) (getD ls i 0) i ps js ws us es (table .brt .0)
+    task-handed =
+        let few = accepted .few in
+        record {
+          lent = lent table accepted n (i + 1) (omega arith) held ps js ws os ls numbers us es sets;
+          handed = λ m h. handed-by m _ (weights-are m) (omega (arith, front-long (weightIn ws (table .brt .0) us es m i) i (omega arith)));
+        }
+
+    pub response-is : (m : ℕ) → m ≤ 5
+        → withCombined (singleIn (getD os i 0) (getD ls i 0) i ps js ws us es (table .brt .0)) m ≡ responseOf table m i
+    unfolding responseOf
+    response-is m h = combined-same (singleIn (getD os i 0) (getD ls i 0) i ps js ws us es (table .brt .0)) (λ k. answerOf table k i) m h (λ k l. least-by k _ (weights-are k))
+
+    -- ---- all tasks
+
+    module _ (vs : List ℕ) (few : n ≤ 32) (weighed : (m j : ℕ) → m ≤ 4 → j < i → getD vs (place m i j) 0 ≡ weightIn ws (table .brt .0) us es m i j)
+        (long : length vs ≡ 5120) where
+      row-is : (m : ℕ) → m ≤ 4 → (j : ℕ) → j < i → getD (rowAt vs i m) j 0 ≡ weightAt table m i j
+      row-is m h j l =
+          let from = (m * 32 + i) * 32 in
+          getD-take (from + 32 - from) (drop from vs) j 0 (omega arith) ∙ getD-drop from vs j 0 ∙ weighed m j h l ∙ weight-is m j l
+
+      row-long : (m : ℕ) → m ≤ 4 → i ≤ length (rowAt vs i m)
+      row-long m h = simp (length-take, length-drop) (omega arith)
+
+      pub row-handed : RowHanded (getD os i 0) (getD ls i 0) i ps js vs
+      row-handed = record {
+        row = omega arith;
+        long = long;
+        handed = λ m h. handed-by m (rowAt vs i m) (row-is m h) (row-long m h);
+        under = λ m j h l. omega (arith, row-is 0 (omega arith) j l, row-is m h j l, plain-least m j);
+      }
+
+      pub rows-are : rowIn os ls ps js vs i ≡ rowOf table i
+      unfolding responseOf
+      rows-are =
+          ap (λ (cs : List Cell). record { cells = cs })
+          (cells-same (answerIn (getD os i 0) (getD ls i 0) i ps js vs) (λ m. answerOf table m i) (λ m h. least-by m _ (row-is m h)))
+
+module _ (table : Table) (accepted : AcceptedTable table) (ps js ws os ls : List ℕ) (numbers : Numbers table (table .count) ps js ws os ls)
+    (us es : List ℕ) (sets : Sets table (table .count) us es) (before vs : List ℕ)
+    (weighed : Weighed (Pairs (table .count)) (weightIn ws (table .brt .0) us es) before vs) where
+  pub rows-handed : RowsHanded os ls ps js vs (table .count)
+  rows-handed =
+      let few = accepted .few in
+      record {
+        few = few;
+        owns-long = omega (arith, numbers .own .long);
+        limits-long = omega (arith, numbers .limit .long);
+        rows = λ i l. row-handed table accepted (table .count) i l (omega arith) ps js ws os ls numbers us es sets vs few
+            (λ m j h k. weighed .each m i j (h, k, l)) (weighed .long);
+      }
+
+  pub rows-same : map (rowIn os ls ps js vs) (hp (table .count)) ≡ map (rowOf table) (hp (table .count))
+  rows-same =
+      map-same _ _ (table .count)
+      (λ i l. rows-are table accepted (table .count) i l (omega arith) ps js ws os ls numbers us es sets vs (accepted .few)
+      (λ m j h k. weighed .each m i j (h, k, l)) (weighed .long))

@@ -1,0 +1,24 @@
+-- The figures are what the definitions say: antt computes them. Assumes nothing.
+use mathlib.Core.Path.{_≡_, refl}
+use mathlib.Core.List.{map}
+use Rattle.sets.specs.Sets.{∅, _∪_, _∩_, count, size}
+use Rattle.sets.specs.Words.{number, members}
+use Rattle.response.specs.declared.Response.{Response}
+use Rattle.response.specs.Positions.{run, fold}
+use Rattle.response.specs.Demand.{demandOf}
+use Rattle.response.specs.Least.{firstOf, leastOf}
+use Rattle.table.specs.Tasks.{at}
+use Rattle.costs.specs.Costs.{reloadsOf, termAt}
+use Rattle.analysis.specs.Analysis.{ownOf, answerOf, responseOf}
+use Rattle.analysis.specs.Figures.{Figure, figures, P}
+
+abbrev found : Figure → Response
+found f = responseOf (f .table) (f .method) (f .position)
+
+-- and of table P, 7 also equals its demand, and the demand at 6 is 7
+pub figures-hold :
+    (map found figures ≡ map (λ (f : Figure). f .answer) figures)
+    × (demandOf (ownOf (P 0 8 0 0) 1) (termAt (P 0 8 0 0) 0 1) 1 7 ≡ 7)
+    × (demandOf (ownOf (P 0 8 0 0) 1) (termAt (P 0 8 0 0) 0 1) 1 6 ≡ 7)
+unfolding responseOf answerOf leastOf firstOf demandOf reloadsOf at run fold ∅ _∪_ _∩_ count size number members
+figures-hold = (refl, refl, refl)

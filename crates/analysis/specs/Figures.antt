@@ -1,0 +1,74 @@
+-- Worked figures, in one table. proofs/Figures.antt has that they are what the definitions say.
+use Prim.Native.Nat.{ℕ}
+use mathlib.Core.List.{List, [], _∷_}
+use lib.ListN.{length}
+use Rattle.sets.specs.declared.CacheSet.{CacheSet}
+use Rattle.units.specs.declared.Ticks.{Ticks}
+use Rattle.response.specs.declared.Response.{Response}
+use Rattle.response.specs.declared.Response.the-variants.{Within, Unschedulable}
+use Rattle.table.specs.declared.Task.{Task}
+use Rattle.table.specs.declared.Table.{Table}
+
+abbrev ticks : ℕ → Ticks
+ticks n = record { 0 = n }
+
+-- the sets that one word says
+abbrev set : ℕ → CacheSet
+set w = record { w0 = w; w1 = 0; w2 = 0; w3 = 0 }
+
+-- C, T, D, J, B, UCB, ECB
+abbrev task : ℕ → ℕ → ℕ → ℕ → ℕ → ℕ → ℕ → Task
+task c t d j b u e = record {
+  name = record { bytes = [] };
+  work = ticks c;
+  period = ticks t;
+  deadline = ticks d;
+  jitter = ticks j;
+  blocking = ticks b;
+  ucb = set u;
+  ecb = set e;
+}
+
+-- sets, BRT, tasks
+abbrev tableOf : ℕ → ℕ → List Task → Table
+tableOf sets brt ts = record { sets = sets; brt = ticks brt; count = length ts; tasks = ts }
+
+-- tables A, B and M, with D of c
+abbrev A : ℕ → Table
+A d = tableOf 4 1 (task 1 20 20 0 0 0x0 0xf ∷ task 2 40 40 0 0 0x3 0xf ∷ task 2 60 d 0 0 0xc 0xf ∷ [])
+
+abbrev B : ℕ → Table
+B d = tableOf 4 1 (task 1 20 20 0 0 0x0 0x3 ∷ task 2 40 40 0 0 0x0 0xc ∷ task 2 60 d 0 0 0xf 0xf ∷ [])
+
+abbrev M : Table
+M = tableOf 8 1 (task 1 20 20 0 0 0x00 0x0f ∷ task 2 40 40 0 0 0x03 0x30 ∷ task 2 60 60 0 0 0x3c 0x3c ∷ [])
+
+-- table P, with J of a, and D, J and B of b
+abbrev pub P : ℕ → ℕ → ℕ → ℕ → Table
+P ja d j b = tableOf 4 0 (task 2 5 5 ja 0 0 0 ∷ task 3 8 d j b 0 0 ∷ [])
+
+-- the answer for the task at `position` of `table` under `method` is `answer`
+pub record Figure : Type 0 where
+  pub table : Table
+  pub method : ℕ
+  pub position : ℕ
+  pub answer : Response
+
+abbrev at : Table → ℕ → ℕ → ℕ → Figure
+at table m i r = record { table = table; method = m; position = i; answer = Within (ticks r) }
+
+abbrev none : Table → ℕ → ℕ → Figure
+none table m i = record { table = table; method = m; position = i; answer = Unschedulable }
+
+abbrev pub figures : List Figure
+figures =
+    at (A 60) 3 2 11 ∷ at (A 60) 4 2 9 ∷ at (A 60) 5 2 9
+    ∷ at (A 9) 5 2 9 ∷ none (A 8) 5 2
+    ∷ at (B 60) 3 2 9 ∷ at (B 60) 4 2 11 ∷ at (B 60) 5 2 9
+    ∷ none (B 10) 4 2 ∷ at (B 10) 5 2 9
+    ∷ at M 3 2 11 ∷ at M 4 2 11 ∷ at M 5 2 11
+    ∷ at (P 0 8 0 0) 0 1 5 ∷ at (P 0 6 0 0) 0 1 5
+    ∷ at (P 1 8 0 0) 0 1 7 ∷ none (P 1 7 1 0) 0 1
+    ∷ at (P 0 8 0 1) 0 1 8
+    ∷ none (P 0 8 8 0) 0 1
+    ∷ []

@@ -1,0 +1,5 @@
+-- What belongs to no one function.
+pub mod CostLaws
+pub mod LentLaws
+pub mod CarriedLaws
+pub mod OrderLaws

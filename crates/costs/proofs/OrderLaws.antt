@@ -1,0 +1,100 @@
+-- A harder table has no smaller costs. Assumes nothing.
+use Prim.Native.Nat.{ℕ, zero, suc, _+_, _≤_, _<_, max, zero-le}
+use native.Mathlib.Nat.{le-antisymm, mul-le-mul}
+use native.Mathlib.Omega.{arith}
+use mathlib.Core.Path.{_≡_}
+use Rattle.sets.specs.Sets.{Set, ∅, _∪_, _⊆_}
+use Rattle.sets.proofs.SetLaws.{union-left, union-right, union-least, size-mono, size-inter-mono}
+use Rattle.response.specs.Positions.{hp}
+use Rattle.response.specs.Demand.{NoMore}
+use Rattle.response.specs.Flat.{InRange}
+use Rattle.response.proofs.PositionLaws.{Rising, place-lt, place-le, Grows, gathered}
+use Rattle.table.specs.declared.Table.{Table}
+use Rattle.table.specs.Tasks.{at}
+use Rattle.table.specs.Accepted.{AcceptedTable}
+use Rattle.costs.specs.Gather.{unionOf}
+use Rattle.costs.specs.Costs.{ucb, ecb, reloadsOf, termAt}
+use Rattle.costs.specs.Harder.{Harder, HarderBy}
+use Rattle.costs.proofs.CostLaws.{reloads-most}
+
+max-grows : Grows max _≤_
+max-grows = record { same = λ x. omega arith; trans = λ x y w p q. omega arith; more = λ x y. omega arith; both = λ x y v w p q. omega arith }
+
+union-grows : Grows _∪_ _⊆_
+union-grows = record {
+  same = λ A s h. h;
+  trans = λ A B C p q s h. q s (p s h);
+  more = union-left;
+  both = λ A B C D p q. union-least A B (C ∪ D) (λ s h. union-left C D s (p s h)) (λ s h. union-right C D s (q s h));
+}
+
+-- ---- more marks, more reloads: what stands at k in the one stands at place k in the other
+
+module _ (place : ℕ → ℕ) (rises : Rising place) (U E U′ E′ : ℕ → Set) (i j : ℕ) (above : j < i)
+    (u : (k : ℕ) → k ≤ i → U k ⊆ U′ (place k)) (e : (k : ℕ) → k ≤ i → E k ⊆ E′ (place k)) where
+  next-place : place j + 1 ≤ place (j + 1)
+  next-place = omega (arith, place-lt place rises j (j + 1) (omega arith))
+
+  in-aff : (k : ℕ) → k < i + 1 → place k < place i + 1
+  in-aff k l = omega (arith, place-le place rises k i (omega arith))
+
+  evicted : unionOf E (hp (j + 1)) ⊆ unionOf E′ (hp (place j + 1))
+  evicted =
+      gathered union-grows place rises ∅ ∅ (λ s h. h) E E′ 0 0 zero-le (j + 1) (place j + 1)
+      (λ k h l. (omega (arith, place-le place rises k j (omega arith)), e k (omega arith)))
+
+  pub reloads-by : (m : ℕ) → reloadsOf U E m i j ≤ reloadsOf U′ E′ m (place i) (place j)
+  unfolding reloadsOf
+  reloads-by zero = omega arith
+  reloads-by (suc zero) = size-mono _ _ (e j (omega arith))
+  reloads-by (suc (suc zero)) =
+      gathered max-grows place rises 0 0 (omega arith) _ _ (j + 1) (place j + 1) next-place (i + 1) (place i + 1)
+      (λ k h l. (in-aff k l, size-mono _ _ (u k (omega arith))))
+  reloads-by (suc (suc (suc zero))) =
+      size-inter-mono _ _ _ _
+      (gathered union-grows place rises ∅ ∅ (λ s h. h) U U′ (j + 1) (place j + 1) next-place (i + 1) (place i + 1) (λ k h l. (in-aff k l, u k (omega arith))))
+      (e j (omega arith))
+  reloads-by (suc (suc (suc (suc zero)))) =
+      gathered max-grows place rises 0 0 (omega arith) _ _ (j + 1) (place j + 1) next-place (i + 1) (place i + 1)
+      (λ k h l. (in-aff k l, size-inter-mono _ _ _ _ (u k (omega arith)) evicted))
+  reloads-by (suc (suc (suc (suc (suc m))))) = omega arith
+
+-- only the sets down to i count
+pub reloads-same : (U E U′ E′ : ℕ → Set) (m i j : ℕ) → j < i → ((k : ℕ) → k ≤ i → U k ≡ U′ k) → ((k : ℕ) → k ≤ i → E k ≡ E′ k)
+    → reloadsOf U E m i j ≡ reloadsOf U′ E′ m i j
+reloads-same U E U′ E′ m i j h u e =
+    le-antisymm
+    (reloads-by (λ k. k) (λ k. omega arith) U E U′ E′ i j h (λ k l. rw (u k l) (λ s p. p)) (λ k l. rw (e k l) (λ s p. p)) m)
+    (reloads-by (λ k. k) (λ k. omega arith) U′ E′ U E i j h (λ k l. rw (u k l) (λ s p. p)) (λ k l. rw (e k l) (λ s p. p)) m)
+
+-- ---- the terms of accepted tables
+
+pub term-ranged : (table : Table) (m i j : ℕ) → AcceptedTable table → j < table .count → InRange (termAt table m i j)
+term-ranged table m i j p h =
+    let q = p .tasks j h in
+    record {
+      period = q .period .0;
+      period-most = q .period .1;
+      jitter = omega (arith, q .jitter, q .deadline, q .period);
+      weight = omega (arith, q .work, mul-le-mul {n₂ = 100000} {m₂ = 2048} (p .brt) (reloads-most (ucb table) (ecb table) i j m));
+    }
+
+pub term-harder : (place : ℕ → ℕ) (first second : Table) (i j : ℕ) → HarderBy place i first second → AcceptedTable second → j < i
+    → (m : ℕ) → NoMore (termAt first m i j) (termAt second m (place i) (place j))
+term-harder place first second i j harder p above m =
+    let t = harder .tasks j (omega arith) in
+    let g =
+    reloads-by place (harder .rises) (ucb first) (ecb first) (ucb second) (ecb second) i j above
+    (λ k l. harder .tasks k l .ucb) (λ k l. harder .tasks k l .ecb) m
+    in
+    record {
+      live = p .tasks (place j) (harder .held j (omega arith)) .period .0;
+      period = t .period;
+      jitter = t .jitter;
+      weight = omega (arith, t .work, mul-le-mul (harder .brt) g);
+    }
+
+-- position by position
+pub harder-by : (first second : Table) (i : ℕ) → Harder first second → i < first .count → HarderBy (λ k. k) i first second
+harder-by first second i h l =
+    record { rises = λ k. omega arith; brt = h .brt; held = λ k n. omega (arith, h .count); tasks = λ k n. h .tasks k (omega arith) }

@@ -1,0 +1,41 @@
+-- Reload counts, and what the tasks of higher priority ask for.
+use Prim.Native.Nat.{ℕ, _+_, _*_}
+use mathlib.Core.List.{List, [], _∷_}
+use lib.ListN.{getD}
+use Rattle.sets.specs.Sets.{Set, _∩_, size}
+use Rattle.sets.specs.Words.{members}
+use Rattle.response.specs.Positions.{hp}
+use Rattle.response.specs.Demand.{Term, termOf}
+use Rattle.table.specs.declared.Table.{Table}
+use Rattle.table.specs.Tasks.{at}
+use Rattle.costs.specs.Gather.{aff, unionOf, largestOf}
+
+-- g(i, j) under each of the methods 0 to 4, where U k and E k are the UCB and the ECB of the task at k
+abbrev pub counts : (ℕ → Set) → (ℕ → Set) → ℕ → ℕ → List ℕ
+counts U E i j =
+    0
+    ∷ size (E j)
+    ∷ largestOf (λ k. size (U k)) (aff i j)
+    ∷ size (unionOf U (aff i j) ∩ E j)
+    ∷ largestOf (λ k. size (U k ∩ unionOf E (hp (j + 1)))) (aff i j)
+    ∷ []
+
+unfoldable pub reloadsOf : (ℕ → Set) → (ℕ → Set) → ℕ → ℕ → ℕ → ℕ
+reloadsOf U E m i j = getD (counts U E i j) m 0
+
+-- what one activation of j asks for while i is pending: its own work, and the time of its reloads
+abbrev pub weightOf : (ℕ → ℕ) → ℕ → (ℕ → Set) → (ℕ → Set) → ℕ → ℕ → ℕ → ℕ
+weightOf C brt U E m i j = C j + brt * reloadsOf U E m i j
+
+-- ---- the same of a table's tasks
+
+abbrev pub ucb : Table → ℕ → Set
+ucb table k = members (at table k .ucb)
+
+abbrev pub ecb : Table → ℕ → Set
+ecb table k = members (at table k .ecb)
+
+-- what the task at j asks for while i is pending, under method m
+abbrev pub termAt : Table → ℕ → ℕ → ℕ → Term
+termAt table m i j =
+    termOf (at table j .period .0) (at table j .jitter .0) (weightOf (λ k. at table k .work .0) (table .brt .0) (ucb table) (ecb table) m i j)

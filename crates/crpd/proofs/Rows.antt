@@ -1,0 +1,82 @@
+-- The rows of an accepted table's answers are what its report is made from.
+-- Assumes nothing.
+use Prim.Native.Nat.{ℕ, zero, suc, _≤_, _<_}
+use native.Mathlib.Omega.{arith}
+use mathlib.Core.Path.{_≡_, refl, sym, ap, _∙_}
+use mathlib.Core.Bool.{Bool, true, false, cond}
+use mathlib.Core.List.{List, map}
+use lib.Dec.{eqb}
+use lib.ListN.{take, getD}
+use lib.Seq.{getD-take}
+use Rattle.response.specs.declared.Response.{Response}
+use Rattle.response.specs.declared.Response.the-variants.{Within, Unschedulable}
+use Rattle.response.specs.declared.Row.{Row}
+use Rattle.response.specs.Positions.{hp}
+use Rattle.response.specs.Least.{leastOf, LeastWithin, sooner}
+use Rattle.response.proofs.LeastLaws.{leastOf-least}
+use Rattle.response.proofs.PositionLaws.{map-at}
+use Rattle.table.specs.declared.Table.{Table}
+use Rattle.table.specs.Accepted.{AcceptedTable}
+use Rattle.analysis.specs.Analysis.{limitOf, answerOf, responseOf, rowOf}
+use Rattle.report.specs.Rows.{noRow, answerIn, answersIn, InRange, Reportable}
+use Rattle.report.specs.Report.{reportOf}
+use Rattle.report.proofs.Agree.{report-agrees}
+use Rattle.crpd.specs.Operations.{reportIn}
+
+-- ---- no response is above the longest deadline
+
+least-in-range : (f : ℕ → ℕ) (limit : ℕ) → limit ≤ 250000000 → InRange (leastOf f limit)
+unfolding LeastWithin
+least-in-range f limit h = go (leastOf f limit) (leastOf-least f limit)
+  where
+    go : (a : Response) → LeastWithin f limit a → InRange a
+    go (Within R) p = omega (arith, p .0)
+    go Unschedulable p = tt
+
+sooner-in-range : (a b : Response) → InRange a → InRange b → InRange (sooner a b)
+sooner-in-range (Within a) (Within b) p q = omega arith
+sooner-in-range (Within a) Unschedulable p q = p
+sooner-in-range Unschedulable b p q = q
+
+module _ (table : Table) (accepted : AcceptedTable table) where
+  answer-in-range : (m i : ℕ) → i < table .count → InRange (answerOf table m i)
+  unfolding answerOf
+  answer-in-range m i h =
+      let t = accepted .tasks i h in
+      least-in-range _ (limitOf table i) (omega (arith, t .deadline, t .period))
+
+  response-in-range : (m i : ℕ) → i < table .count → InRange (responseOf table m i)
+  unfolding responseOf
+  response-in-range m i h = go (eqb m 5)
+    where
+      go : (t : Bool) → InRange (cond t (sooner (answerOf table 3 i) (answerOf table 4 i)) (answerOf table m i))
+      go true = sooner-in-range (answerOf table 3 i) (answerOf table 4 i) (answer-in-range 3 i h) (answer-in-range 4 i h)
+      go false = answer-in-range m i h
+
+-- ---- what the rows hold
+
+cell-at : (table : Table) (i m : ℕ) → m < 6 → answerIn (rowOf table i) m ≡ responseOf table m i
+cell-at table i zero h = refl
+cell-at table i (suc zero) h = refl
+cell-at table i (suc (suc zero)) h = refl
+cell-at table i (suc (suc (suc zero))) h = refl
+cell-at table i (suc (suc (suc (suc zero)))) h = refl
+cell-at table i (suc (suc (suc (suc (suc zero))))) h = refl
+cell-at table i (suc (suc (suc (suc (suc (suc m)))))) h = absurd (omega arith)
+
+module _ (table : Table) (rows : List Row) (e : take (table .count) rows ≡ map (rowOf table) (hp (table .count))) where
+  row-at : (i : ℕ) → i < table .count → getD rows i noRow ≡ rowOf table i
+  row-at i h =
+      sym (getD-take (table .count) rows i noRow h) ∙ ap (λ (xs : List Row). getD xs i noRow) e ∙ map-at (rowOf table) (table .count) i noRow h
+
+  rows-hold : (m i : ℕ) → m < 6 → i < table .count → answersIn rows m i ≡ responseOf table m i
+  rows-hold m i h l = ap (λ (row : Row). answerIn row m) (row-at i l) ∙ cell-at table i m h
+
+  pub reportable : AcceptedTable table → Reportable table rows
+  reportable accepted = record {
+    accepted = accepted;
+    ranged = λ m i h l. rw (rows-hold m i h l) (response-in-range table accepted m i l);
+  }
+
+  pub report-is : reportOf table (answersIn rows) ≡ reportIn table
+  report-is = report-agrees table (answersIn rows) (responseOf table) rows-hold

@@ -1,0 +1,46 @@
+-- The numbers by which the exported functions answer. A number below 2 ^ 32 is a response in ticks, 0 where there is none, or a length in
+-- bytes; any other is a refusal, its number and its line.
+-- Assumes nothing.
+use Prim.Native.Nat.{ℕ, _+_, _*_, _≤_}
+use mathlib.Core.Path.{_≡_}
+use mathlib.Core.List.{List}
+use Rattle.table.specs.Reading.{readText}
+use Rattle.table.specs.declared.Refusal.{Refusal}
+use Rattle.delivery.specs.declared.Written.{Written}
+use Rattle.delivery.specs.declared.Written.the-variants as written
+use Rattle.delivery.specs.Delivery.{writtenOf, bufferOf}
+use Rattle.crpd.specs.declared.Reply.{Reply}
+use Rattle.crpd.specs.Operations.{reportIn, reportAnswer, reportBuffer}
+use Rattle.crpd.specs.declared.Reply.the-variants.{Within, Unschedulable, Refused}
+
+-- the refusals that there are: up to number 14, and lines of a text of at most 16,384 bytes
+pub record SmallRefusal (r : Refusal) : Type 0 where
+  pub number : r .number ≤ 14
+  pub line : r .line ≤ 16385
+
+-- 2 ^ 32 times the number, and the line
+abbrev pub refusalCode : Refusal → ℕ
+refusalCode r = r .number * 4294967296 + r .line
+
+abbrev pub answerCode : Reply → ℕ
+answerCode (Within R) = R .0
+answerCode Unschedulable = 0
+answerCode (Refused r) = refusalCode r
+
+abbrev pub writtenCode : Written → ℕ
+writtenCode (written.Length n) = n
+writtenCode (written.Refused r) = refusalCode r
+
+abbrev pub SmallWritten : Written → Type 0
+SmallWritten (written.Length n) = Unit {0}
+SmallWritten (written.Refused r) = SmallRefusal r
+
+-- the report's number, and the buffer
+pub record ReportCoded (text before : List ℕ) (code : ℕ) (after : List ℕ) : Type 0 where
+  pub answer-is : code ≡ writtenCode (reportAnswer (readText text .verdict) (reportIn (readText text .table)) before)
+  pub buffer-is : after ≡ reportBuffer (readText text .verdict) (reportIn (readText text .table)) before
+
+-- the number of a text that is delivered whole or refused, and the buffer
+pub record DeliveryCoded (text before : List ℕ) (code : ℕ) (after : List ℕ) : Type 0 where
+  pub answer-is : code ≡ writtenCode (writtenOf text before)
+  pub buffer-is : after ≡ bufferOf text before

@@ -1,0 +1,76 @@
+-- What the public operations answer, for every text, method number, position and buffer.
+-- Assumes nothing.
+use Prim.Native.Nat.{ℕ, _≤_}
+use mathlib.Core.Path.{_≡_}
+use mathlib.Core.Bool.{cond}
+use mathlib.Core.List.{List}
+use lib.Dec.{leb, ltb}
+use lib.ListN.{length}
+use Rattle.response.specs.declared.Response.{Response}
+use Rattle.response.specs.declared.Response.the-variants as response
+use Rattle.table.specs.declared.Refusal.{Refusal}
+use Rattle.table.specs.declared.Table.{Table}
+use Rattle.table.specs.declared.Verdict.{Verdict}
+use Rattle.table.specs.declared.Verdict.the-variants as verdict
+use Rattle.table.specs.Reading.{readText}
+use Rattle.analysis.specs.Analysis.{responseOf}
+use Rattle.delivery.specs.declared.Written.{Written}
+use Rattle.delivery.specs.declared.Written.the-variants as written
+use Rattle.report.specs.Report.{reportOf}
+use Rattle.delivery.specs.Delivery.{writtenOf, bufferOf}
+use Rattle.delivery.specs.Error.{errorText}
+use Rattle.crpd.specs.declared.Reply.{Reply}
+use Rattle.crpd.specs.declared.Reply.the-variants.{Within, Unschedulable, Refused}
+
+-- a refusal that tells no line
+abbrev pub refusal : ℕ → Refusal
+refusal n = record { number = n; line = 0 }
+
+-- ---- one answer
+
+abbrev pub answerOf : Response → Reply
+answerOf (response.Within R) = Within R
+answerOf response.Unschedulable = Unschedulable
+
+-- in an accepted table: 13 where there is no task at the position
+abbrev pub answerIn : Table → ℕ → ℕ → Reply
+answerIn table m i = cond (leb (table .count) i) (Refused (refusal 13)) (answerOf (responseOf table m i))
+
+abbrev pub unlessRefused : Verdict → Reply → Reply
+unlessRefused verdict.Accepted answer = answer
+unlessRefused (verdict.Refused r) answer = Refused r
+
+-- 12 where there is no such method, then the text's refusals, then 13
+unfoldable pub answerTo : List ℕ → ℕ → ℕ → Reply
+answerTo text m i =
+    cond (ltb 5 m) (Refused (refusal 12)) (unlessRefused (readText text .verdict) (answerIn (readText text .table) m i))
+
+-- ---- the report
+
+-- the report of an accepted table
+abbrev pub reportIn : Table → List ℕ
+reportIn table = reportOf table (responseOf table)
+
+-- the text's refusals, and then 14, where the report is longer than the buffer
+abbrev pub reportAnswer : Verdict → List ℕ → List ℕ → Written
+reportAnswer verdict.Accepted text before = writtenOf text before
+reportAnswer (verdict.Refused r) text before = written.Refused r
+
+-- a refused report leaves the buffer as it was
+abbrev pub reportBuffer : Verdict → List ℕ → List ℕ → List ℕ
+reportBuffer verdict.Accepted text before = bufferOf text before
+reportBuffer (verdict.Refused r) text before = before
+
+pub record TextReported (text before : List ℕ) (answer : Written) (after : List ℕ) : Type 0 where
+  pub answer-is : answer ≡ reportAnswer (readText text .verdict) (reportIn (readText text .table)) before
+  pub buffer-is : after ≡ reportBuffer (readText text .verdict) (reportIn (readText text .table)) before
+  pub short : readText text .verdict ≡ verdict.Accepted → length (reportIn (readText text .table)) ≤ 2746
+
+-- ---- what the program prints: the report, or the line of the refusal
+
+abbrev pub printedOf : Verdict → List ℕ → List ℕ
+printedOf verdict.Accepted text = text
+printedOf (verdict.Refused r) text = errorText r
+
+unfoldable pub printed : List ℕ → List ℕ
+printed text = printedOf (readText text .verdict) (reportIn (readText text .table))

@@ -1,0 +1,96 @@
+// The public operations on a table text: one answer, the report, and what the program prints. They take every text, number and buffer, and
+// ask nothing of their caller.
+pub mod exported;
+
+use delivery::Written;
+use response::Response;
+use table::Refusal;
+use table::Table;
+use table::Verdict;
+use units::Ticks;
+ghost use mathlib.Core.Path.{_≡_};
+ghost use Prim.Native.Nat.{_≤_};
+ghost use Rattle.table.specs.Accepted.{AcceptedTable};
+ghost use Rattle.writer.specs.Wrote.{Wrote};
+ghost use Rattle.analysis.specs.Analysis.{responseOf};
+ghost use Rattle.report.specs.Reported.{Reported};
+ghost use Rattle.crpd.specs.Operations.{answerOf, answerIn, answerTo, TextReported, printed};
+
+// What is answered of a task under a method.
+pub enum Reply {
+    Within(Ticks),
+    Unschedulable,
+    Refused(Refusal),
+}
+
+fn answer_of(response: Response) -> Reply
+    ensures { λ r. ⌜ r ≡ answerOf response ⌝ }
+{
+    match response {
+        Response::Within(time) => Reply::Within(time),
+        Response::Unschedulable => Reply::Unschedulable,
+    }
+}
+
+fn answer_in(table: Table, method: u64, position: u64) -> Reply
+    requires { ⌜ (method ≤ 5) × AcceptedTable table ⌝ }
+    ensures { λ r. ⌜ r ≡ answerIn table method position ⌝ }
+{
+    let count = table.count;
+    if count as u64 <= position {
+        return Reply::Refused(Refusal {
+            number: 13,
+            line: 0,
+        });
+    }
+    answer_of(analysis::respond(table, method, position as usize))
+}
+
+// The answer for the task at a position under a method.
+pub fn answer(text: &[u8], method: u64, position: u64) -> Reply
+    ensures { λ r. ⌜ r ≡ answerTo (now (text .entry)) method position ⌝ }
+{
+    if 5 < method {
+        return Reply::Refused(Refusal {
+            number: 12,
+            line: 0,
+        });
+    }
+    let outcome = table::read(text);
+    let verdict = outcome.verdict;
+    if let Verdict::Refused(refusal) = verdict {
+        return Reply::Refused(refusal);
+    }
+    let table = outcome.table;
+    answer_in(table, method, position)
+}
+
+fn report_in(table: Table, out: &mut [u8]) -> Written
+    requires { ⌜ AcceptedTable table ⌝ }
+    ensures { λ r. ⌜ Reported table (responseOf table) (now (out .entry)) r (now (out .exit)) ⌝ }
+{
+    report::report(table, analysis::responses(table), out)
+}
+
+// The report, at the start of the buffer, or a refusal that leaves the buffer as it was.
+pub fn report(text: &[u8], out: &mut [u8]) -> Written
+    ensures { λ r. ⌜ TextReported (now (text .entry)) (now (out .entry)) r (now (out .exit)) ⌝ }
+{
+    let outcome = table::read(text);
+    let verdict = outcome.verdict;
+    if let Verdict::Refused(refusal) = verdict {
+        return Written::Refused(refusal);
+    }
+    let table = outcome.table;
+    report_in(table, out)
+}
+
+// What the program prints, at the start of the buffer: the report, or the line of the text's refusal. The longest fits.
+pub fn print(text: &[u8], out: &mut [u8; 2746]) -> usize
+    ensures { λ r. ⌜ Wrote (now (out .entry)) 0 (printed (now (text .entry))) (now (out .exit)) r ⌝ }
+{
+    match report(text, out) {
+        Written::Length(len) => len,
+        Written::Refused(refusal) => delivery::put_error(out, refusal),
+    }
+}

@@ -1,0 +1,6 @@
+-- What belongs to no one function.
+pub mod PositionLaws
+pub mod LeastLaws
+pub mod SoonerLaws
+pub mod DemandLaws
+pub mod HastenLaws

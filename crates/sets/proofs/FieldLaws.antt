@@ -1,0 +1,197 @@
+-- Laws of a cache-set field. Assumes nothing.
+use mathlib.Core.Path.{_≡_, refl, sym, ap, ap₂, _∙_, subst}
+use mathlib.Core.Logic.{_⊎_, inl, inr, ⊎-elim}
+use mathlib.Core.Bool.{Bool, true, false, _&&_, cond}
+use mathlib.Core.List.{List, [], _∷_}
+use mathlib.Core.Option.{Option, some, none}
+use Prim.Native.Nat.{ℕ, _+_, _*_, _-_, _/_, _%_, _^_, _≤_, _<_, zero-le}
+use native.Mathlib.Nat.{lt-of-lt-of-le, div-eq-of-lt}
+use native.Mathlib.Decide.{decLt}
+use native.Mathlib.Numerals.{add-one}
+use native.Mathlib.Omega.{arith}
+use lib.ListN.{length, drop, getD}
+use lib.Pow.{pow-add, pow-mono}
+use lib.Seq.{drop-cons, drop-length}
+use lib.Arith.{digits-lt}
+use lib.Dec.{leb, eqb, lit<}
+use borrow.Author.Tests.{leb-true, le-leb, lt-leb, eq-eqb, ne-eqb, eqb-true}
+use Rattle.sets.specs.declared.CacheSet.{CacheSet}
+use Rattle.sets.specs.declared.SetField.the-variants.{Set, Bad}
+use Rattle.sets.specs.Field.{hexDigit, andThen, readHex, ofNumber, readSet}
+use Rattle.sets.specs.Words.{bitsOf, number, wordsOf, members}
+use Rattle.sets.proofs.WordLaws.{number-words, members-words}
+use Rattle.sets.proofs.SetLaws.{and-left, and-right}
+
+-- ---- a digit and its byte
+
+either : (p q : Bool) (x y d : ℕ) → cond p (some x) (cond q (some y) none) ≡ some d → ((p ≡ true) × (x ≡ d)) ⊎ ((q ≡ true) × (y ≡ d))
+either true q x y d e = inl (refl, cc)
+either false true x y d e = inr (refl, cc)
+either false false x y d e = let z : _≡_ {A = ℕ} 0 1 = cc in absurd (omega arith)
+
+in-run : (low high b : ℕ) → (leb low b && leb b high) ≡ true → (low ≤ b) × (b ≤ high)
+in-run low high b e = (leb-true low b (and-left (leb low b) (leb b high) e), leb-true b high (and-right (leb low b) (leb b high) e))
+
+-- the two runs of bytes that are digits
+digit-byte : (b d : ℕ) → hexDigit b ≡ some d → (((48 ≤ b) × (b ≤ 57)) × (b - 48 ≡ d)) ⊎ (((97 ≤ b) × (b ≤ 102)) × (b - 97 + 10 ≡ d))
+unfolding hexDigit
+digit-byte b d e =
+    ⊎-elim
+    (λ w. inl (in-run 48 57 b (w .0), w .1))
+    (λ w. inr (in-run 97 102 b (w .0), w .1))
+    (either (leb 48 b && leb b 57) (leb 97 b && leb b 102) (b - 48) (b - 97 + 10) d e)
+
+pub digit-lt : (b d : ℕ) → hexDigit b ≡ some d → d < 16
+digit-lt b d e = ⊎-elim (λ w. omega arith) (λ w. omega arith) (digit-byte b d e)
+
+digit-inj : (b b′ d : ℕ) → hexDigit b ≡ some d → hexDigit b′ ≡ some d → b ≡ b′
+digit-inj b b′ d p q =
+    ⊎-elim
+    (λ w. ⊎-elim (λ v. omega arith) (λ v. omega arith) (digit-byte b′ d q))
+    (λ w. ⊎-elim (λ v. omega arith) (λ v. omega arith) (digit-byte b′ d q))
+    (digit-byte b d p)
+
+-- the digit that a number begins with
+first : (o : Option ℕ) (k : ℕ → Option ℕ) (n : ℕ) → andThen o k ≡ some n → (d : ℕ) × (o ≡ some d) × (k d ≡ some n)
+first (some d) k n e = (d, refl, e)
+first none k n e = let z : _≡_ {A = ℕ} 0 1 = cc in absurd (omega arith)
+
+-- a digit more takes four bits more
+digit-more : {n d : ℕ} (i : ℕ) → n < 2 ^ (4 * i) → d < 16 → n * 16 + d < 2 ^ (4 * (i + 1))
+digit-more {n} {d} i h l = subst (λ (x : ℕ). n * 16 + d < x) (sym (ap (λ (k : ℕ). 2 ^ k) times ∙ pow-add 2 (4 * i) 4)) (digits-lt h l)
+  where
+    times : 4 * (i + 1) ≡ 4 * i + 4
+    times = omega arith
+
+-- ---- reading from the front
+
+-- with i bytes of f read, n is their number: reading on from it gives what all of f gives
+pub record Reading (f : List ℕ) (n i : ℕ) : Type 0 where
+  pub within : i ≤ length f
+  pub same : readHex n (drop i f) ≡ readHex 0 f
+  pub small : n < 2 ^ (4 * i)
+
+pub begin : (f : List ℕ) → Reading f 0 0
+begin f = record { within = zero-le; same = refl; small = lit< tt }
+
+module _ {f : List ℕ} {n i : ℕ} (r : Reading f n i) where
+  pub ended : length f ≤ i → readHex 0 f ≡ some n
+  unfolding readHex
+  ended h =
+      let e : i ≡ length f = omega (arith, r .within) in
+      sym (r .same) ∙ ap (λ (k : ℕ). readHex n (drop k f)) e ∙ ap (readHex n) (drop-length f)
+
+  module _ (more : i < length f) where
+    next : readHex n (drop i f) ≡ andThen (hexDigit (getD f i 0)) (λ d. readHex (n * 16 + d) (drop (i + 1) f))
+    unfolding readHex
+    next = rw (add-one, drop-cons f i 0)
+
+    pub no-digit : hexDigit (getD f i 0) ≡ none → readHex 0 f ≡ none
+    no-digit e = sym (r .same) ∙ next ∙ ap (λ (o : Option ℕ). andThen o (λ d. readHex (n * 16 + d) (drop (i + 1) f))) e
+
+    -- 63 digits at most are read before the last
+    pub room : length f ≤ 64 → n < 2 ^ 252
+    room h = lt-of-lt-of-le (r .small) (pow-mono {j = 252} (omega arith))
+
+    pub one-more : (d : ℕ) → hexDigit (getD f i 0) ≡ some d → Reading f (n * 16 + d) (i + 1)
+    one-more d e = record {
+      within = omega arith;
+      same = sym (next ∙ ap (λ (o : Option ℕ). andThen o (λ d. readHex (n * 16 + d) (drop (i + 1) f))) e) ∙ r .same;
+      small = digit-more i (r .small) (digit-lt (getD f i 0) d e);
+    }
+
+-- ---- a field by its length
+
+module _ (f : List ℕ) (sets : ℕ) where
+  pub too-many : 256 < sets → readSet sets f ≡ Bad
+  unfolding readSet
+  too-many h = simp (lt-leb _ _ h)
+
+  pub wrong-length : sets ≤ 256 → (length f ≡ sets / 4 → ⊥) → readSet sets f ≡ Bad
+  unfolding readSet
+  wrong-length h n = simp (le-leb _ _ h, ne-eqb _ _ n)
+
+  pub right-length : sets ≤ 256 → length f ≡ sets / 4 → readSet sets f ≡ ofNumber (readHex 0 f)
+  unfolding readSet
+  right-length h e = simp (le-leb _ _ h, eq-eqb _ _ e)
+
+-- ---- what is known of a field that says a set
+
+-- its number, the set of that number, and its length
+pub record Says (sets : ℕ) (f : List ℕ) (c : CacheSet) : Type 0 where
+  pub value : ℕ
+  pub read : readHex 0 f ≡ some value
+  pub is : wordsOf value ≡ c
+  pub long : length f ≡ sets / 4
+  pub most : sets ≤ 256
+
+said : (o : Option ℕ) (c : CacheSet) → ofNumber o ≡ Set c → (n : ℕ) × (o ≡ some n) × (wordsOf n ≡ c)
+said (some n) c e = (n, refl, cc)
+said none c e = let z : _≡_ {A = ℕ} 0 1 = cc in absurd (omega arith)
+
+pub says : (sets : ℕ) (f : List ℕ) (c : CacheSet) → readSet sets f ≡ Set c → Says sets f c
+unfolding readSet
+says sets f c e = go (leb sets 256 && eqb (length f) (sets / 4)) refl e
+  where
+    go : (t : Bool) → (leb sets 256 && eqb (length f) (sets / 4)) ≡ t → cond t (ofNumber (readHex 0 f)) Bad ≡ Set c → Says sets f c
+    go true t e =
+        let r = said (readHex 0 f) c e in
+        record {
+          value = r .0;
+          read = r .1;
+          is = r .2;
+          long = eqb-true (length f) (sets / 4) (and-right (leb sets 256) (eqb (length f) (sets / 4)) t);
+          most = leb-true sets 256 (and-left (leb sets 256) (eqb (length f) (sets / 4)) t);
+        }
+    go false t e = let z : _≡_ {A = ℕ} 0 1 = cc in absurd (omega arith)
+
+-- ---- every mark is below the number of cache sets
+
+read-lt : (f : List ℕ) (m n i : ℕ) → m < 2 ^ (4 * i) → readHex m f ≡ some n → n < 2 ^ (4 * (i + length f))
+unfolding readHex
+read-lt [] m n i h e = let s : m ≡ n = cc in subst (λ (x : ℕ). x < 2 ^ (4 * (i + 0))) s (subst (λ (x : ℕ). m < 2 ^ (4 * x)) (omega arith) h)
+read-lt (b ∷ f) m n i h e =
+    let u = first (hexDigit b) (λ d. readHex (m * 16 + d) f) n e in
+    subst (λ (x : ℕ). n < 2 ^ (4 * x)) (omega arith) (read-lt f (m * 16 + u .0) n (i + 1) (digit-more i h (digit-lt b (u .0) (u .1))) (u .2))
+
+no-bit : (n s : ℕ) → n < 2 ^ s → bitsOf n s ≡ true → ⊥
+no-bit n s h e =
+    let f : false ≡ true = ap (λ (x : ℕ). eqb (x % 2) 1) (sym (div-eq-of-lt h)) ∙ e in
+    let z : _≡_ {A = ℕ} 0 1 = cc in
+    omega arith
+
+pub read-below : (sets : ℕ) (f : List ℕ) (c : CacheSet) → sets % 4 ≡ 0 → readSet sets f ≡ Set c → (s : ℕ) → members c s ≡ true → s < sets
+read-below sets f c by-four e s m = elim (decLt s sets) [ yes l ↦ l | no l ↦ absurd (above l) ]
+  where
+    r : Says sets f c
+    r = says sets f c e
+
+    above : (s < sets → ⊥) → ⊥
+    above l =
+        no-bit (r .value) s
+        (lt-of-lt-of-le (read-lt f 0 (r .value) 0 (lit< tt) (r .read)) (pow-mono (omega (arith, r .long))))
+        (ap (λ (A : ℕ → Bool). A s) (sym (members-words (r .value)) ∙ ap members (r .is)) ∙ m)
+
+-- ---- one spelling: two fields of one length that say the same set are the same bytes
+
+read-inj : (f g : List ℕ) (a b n : ℕ) → length f ≡ length g → readHex a f ≡ some n → readHex b g ≡ some n → (a ≡ b) × (f ≡ g)
+unfolding readHex
+read-inj [] [] a b n l p q = (cc, refl)
+read-inj [] (y ∷ g) a b n l p q = absurd (omega arith)
+read-inj (x ∷ f) [] a b n l p q = absurd (omega arith)
+read-inj (x ∷ f) (y ∷ g) a b n l p q =
+    let u = first (hexDigit x) _ n p in
+    let v = first (hexDigit y) _ n q in
+    let r = read-inj f g (a * 16 + u .0) (b * 16 + v .0) n (omega arith) (u .2) (v .2) in
+    let s = same a b (u .0) (v .0) (digit-lt x (u .0) (u .1)) (digit-lt y (v .0) (v .1)) (r .0) in
+    (s .0, ap₂ (λ (z : ℕ) (zs : List ℕ). z ∷ zs) (digit-inj x y (v .0) (u .1 ∙ ap some (s .1)) (v .1)) (r .1))
+  where
+    same : (a b d e : ℕ) → d < 16 → e < 16 → a * 16 + d ≡ b * 16 + e → (a ≡ b) × (d ≡ e)
+    same a b d e p q h = (omega arith, omega arith)
+
+pub one-spelling : (sets : ℕ) (f g : List ℕ) (c : CacheSet) → readSet sets f ≡ Set c → readSet sets g ≡ Set c → f ≡ g
+one-spelling sets f g c p q =
+    let u = says sets f c p in
+    let v = says sets g c q in
+    let e : u .value ≡ v .value = sym (number-words (u .value)) ∙ ap number (u .is ∙ sym (v .is)) ∙ number-words (v .value) in
+    read-inj f g 0 0 (u .value) (u .long ∙ sym (v .long)) (u .read) (v .read ∙ ap some (sym e)) .1

@@ -1,0 +1,191 @@
+-- What is read is settled: it is a refusal, beside which the table is empty, or an acceptance of a table of which all that specs/Accepted.antt names holds.
+-- Assumes nothing.
+use Prim.Native.Nat.{ℕ, zero, suc, _+_, _%_, _≤_, _<_}
+use mathlib.Core.Path.{_≡_, refl, sym, ap, _∙_}
+use mathlib.Core.Bool.{Bool, true, false, not, _||_, false≢true}
+use mathlib.Core.List.{List, [], _∷_, map}
+use native.Mathlib.Decide.{decLt}
+use native.Mathlib.Nat.{not-suc-le-zero, le-of-suc-le-suc}
+use native.Mathlib.Omega.{arith}
+use borrow.Author.Tests.{eqb-false, eq-eqb}
+use lib.ListN.{length, getD, set, length-set, length-replicate}
+use lib.Seq.{getD-take, getD-set-same, getD-set-other, length-take-le}
+use Rattle.text.specs.Bytes.{same}
+use Rattle.text.specs.Cut.{lines}
+use Rattle.table.specs.declared.Name.{Name}
+use Rattle.table.specs.declared.Task.{Task}
+use Rattle.table.specs.declared.Table.{Table}
+use Rattle.table.specs.declared.Refusal.{Refusal}
+use Rattle.table.specs.declared.Outcome.{Outcome}
+use Rattle.table.specs.declared.Finding.{Finding}
+use Rattle.table.specs.declared.Finding.the-variants.{Fine, Fault}
+use Rattle.table.specs.declared.Verdict.the-variants.{Accepted, Refused}
+use Rattle.table.specs.Tasks.{nameOf, packName, blank, at, nameIn, namesOf, tasksOf, emptyTask, emptyTable, withTask}
+use Rattle.table.specs.Said.{headSaid, taskSaid}
+use Rattle.table.specs.Faults.{textFault, knows, endFault}
+use Rattle.table.specs.Reading.{refused, accepted, unlessFault, headTable, readFrom, readLines, readText}
+use Rattle.table.specs.Accepted.{AcceptedTask, AcceptedTable}
+use Rattle.table.proofs.Chain.{fine-row}
+use Rattle.table.proofs.LineLaws.{TaskHolds, HeadHolds, head-holds, task-holds, task-accepted, name-filled}
+
+-- the tasks of a table with one more
+module _ (table : Table) (t : Task) where
+  at-kept : (k : ℕ) → k < table .count → at (withTask table t) k ≡ at table k
+  unfolding at withTask
+  at-kept k h =
+      getD-take (table .count + 1) (set (table .tasks) (table .count) t) k blank (omega arith)
+      ∙ getD-set-other (table .tasks) (table .count) k t blank (λ e. omega arith)
+      ∙ sym (getD-take (table .count) (table .tasks) k blank h)
+
+  at-last : table .count < length (table .tasks) → at (withTask table t) (table .count) ≡ t
+  unfolding at withTask
+  at-last h =
+      getD-take (table .count + 1) (set (table .tasks) (table .count) t) (table .count) blank (omega arith)
+      ∙ getD-set-same (table .tasks) (table .count) t blank h
+
+same-self : (s : List ℕ) → same s s ≡ true
+unfolding same
+same-self [] = refl
+same-self (b ∷ s) = rw (eq-eqb b b refl) (same-self s)
+
+neither : (a b : Bool) → (a || b) ≡ false → (a ≡ false) × (b ≡ false)
+neither true b e = absurd (false≢true (sym e))
+neither false b e = (refl, e)
+
+-- a name that is not known is that of none of the tasks
+unknown : (n : Name) (ts : List Task) (k : ℕ) → knows n (map nameIn ts) ≡ false → k < length ts → getD ts k blank .name ≡ n → ⊥
+unfolding knows
+unknown n [] k e h q = not-suc-le-zero h
+unknown n (t ∷ ts) zero e h q =
+    let p = neither (same (n .bytes) (t .name .bytes)) (knows n (map nameIn ts)) e .0 in
+    false≢true (sym p ∙ ap (λ (m : Name). same (n .bytes) (m .bytes)) q ∙ same-self (n .bytes))
+unknown n (t ∷ ts) (suc k) e h q =
+    unknown n ts k (neither (same (n .bytes) (t .name .bytes)) (knows n (map nameIn ts)) e .1) (le-of-suc-le-suc h) q
+
+-- what holds of a table while it is being read: all but that it has a task; and its names are filled up with zeros
+record Partly (table : Table) : Type 0 where
+  long : length (table .tasks) ≡ 32
+  sets : (4 ≤ table .sets) × (table .sets ≤ 256)
+  by-four : table .sets % 4 ≡ 0
+  brt : table .brt .0 ≤ 100000
+  few : table .count ≤ 32
+  tasks : (k : ℕ) → k < table .count → AcceptedTask (table .sets) (at table k)
+  filled : (k : ℕ) → k < table .count → at table k .name ≡ packName (nameOf (at table k .name))
+  distinct : (j k : ℕ) → j < k → k < table .count → nameOf (at table j .name) ≡ nameOf (at table k .name) → ⊥
+
+-- it holds with a task more that was not refused
+module _ (table : Table) (l : List ℕ) (p : Partly table) (h : TaskHolds (table .count) (namesOf table) (taskSaid (table .sets) l)) where
+  abbrev t : Task
+  t = taskSaid (table .sets) l .task
+
+  fits : table .count < length (table .tasks)
+  fits = let r = h .room in omega (arith, p .long)
+
+  -- what holds of each of the tasks so far and of the new one holds of each task
+  each : (P : Task → Type 0) → ((k : ℕ) → k < table .count → P (at table k)) → P t → (k : ℕ) → k < table .count + 1 → P (at (withTask table t) k)
+  each P old new k b = elim (decLt k (table .count)) [
+    | yes l ↦ rw (at-kept table t k l) (old k l)
+    | no l ↦ last (omega arith)
+  ]
+    where
+      last : k ≡ table .count → P (at (withTask table t) k)
+      last e = rw (e, at-last table t fits) new
+
+  -- the new name is another than that of a task before it
+  another : (j : ℕ) → j < table .count → nameOf (at table j .name) ≡ nameOf (t .name) → ⊥
+  unfolding at
+  another j b e = unknown (t .name) (tasksOf table) j (h .new-name) (omega (arith, length-take-le (table .count) (table .tasks) (omega (arith, fits)))) same-name
+    where
+      same-name : at table j .name ≡ t .name
+      same-name = p .filled j b ∙ ap packName e ∙ sym (name-filled _ _ _ _ (p .by-four) h)
+
+  apart : (j k : ℕ) → j < k → k < table .count + 1 → nameOf (at (withTask table t) j .name) ≡ nameOf (at (withTask table t) k .name) → ⊥
+  apart j k b c = elim (decLt k (table .count)) [
+    | yes l ↦ rw (at-kept table t j (omega arith), at-kept table t k l) (p .distinct j k b l)
+    | no l ↦ last (omega arith)
+  ]
+    where
+      last : k ≡ table .count → nameOf (at (withTask table t) j .name) ≡ nameOf (at (withTask table t) k .name) → ⊥
+      last e = rw (e, at-last table t fits, at-kept table t j (omega arith)) (another j (omega arith))
+
+  partly-more : Partly (withTask table t)
+  unfolding withTask
+  partly-more = record {
+    long = length-set (table .tasks) (table .count) t ∙ p .long;
+    sets = p .sets;
+    by-four = p .by-four;
+    brt = p .brt;
+    few = omega (arith, h .room);
+    tasks = each (AcceptedTask (table .sets)) (p .tasks) (task-accepted _ _ _ _ (p .by-four) h);
+    filled = each (λ (u : Task). u .name ≡ packName (nameOf (u .name))) (p .filled) (name-filled _ _ _ _ (p .by-four) h);
+    distinct = apart;
+  }
+
+-- it holds of the table of line 1
+partly-head : (l : List ℕ) → HeadHolds (headSaid l) → Partly (headTable (headSaid l))
+partly-head l h = record {
+  long = length-replicate 32 emptyTask;
+  sets = h .sets;
+  by-four = h .by-four;
+  brt = h .brt;
+  few = omega arith;
+  tasks = λ k b. absurd (not-suc-le-zero b);
+  filled = λ k b. absurd (not-suc-le-zero b);
+  distinct = λ j k b c. absurd (not-suc-le-zero c);
+}
+
+-- the two ways in which a reading ends
+pub data Settled : Outcome → Type 0 where
+  refusal : (number line : ℕ) → Settled (refused number line)
+  acceptance : (table : Table) → AcceptedTable table → Settled (accepted table)
+
+-- a table whose reading ends without a fault has a task
+whole : (table : Table) → Partly table → endFault (table .count) ≡ Fine → AcceptedTable table
+unfolding endFault
+whole table p e =
+    let n = eqb-false (table .count) 0 (fine-row _ _ _ e .0) in
+    record {
+      sets = p .sets;
+      by-four = p .by-four;
+      brt = p .brt;
+      some = omega arith;
+      few = p .few;
+      tasks = p .tasks;
+      distinct = p .distinct;
+    }
+
+-- what follows is settled, if it is where there is no fault
+unless : (f : Finding) (line : ℕ) (next : Outcome) → (f ≡ Fine → Settled next) → Settled (unlessFault f line next)
+unless Fine line next h = h refl
+unless (Fault number) line next h = refusal number line
+
+settled-from : (line : ℕ) (table : Table) (ls : List (List ℕ)) → Partly table → Settled (readFrom line table ls)
+unfolding readFrom
+settled-from line table [] p = unless _ 1 _ (λ e. acceptance table (whole table p e))
+settled-from line table (l ∷ ls) p =
+    unless _ line _ (λ e. settled-from (line + 1) _ ls (partly-more table l p (task-holds _ _ _ e)))
+
+settled-lines : (ls : List (List ℕ)) → Settled (readLines ls)
+unfolding readLines
+settled-lines [] = refusal 2 0
+settled-lines (l ∷ ls) = unless _ 1 _ (λ e. settled-from 2 _ ls (partly-head l (head-holds _ e)))
+
+pub settled : (text : List ℕ) → Settled (readText text)
+unfolding readText
+settled text = unless (textFault text) 0 _ (λ e. settled-lines (lines text))
+
+accepted-of : (o : Outcome) → Settled o → o .verdict ≡ Accepted → AcceptedTable (o .table)
+accepted-of _ (refusal number line) e = let z : _≡_ {A = ℕ} 0 1 = cc in absurd (omega arith)
+accepted-of _ (acceptance table a) e = a
+
+empty-of : (o : Outcome) (r : Refusal) → Settled o → o .verdict ≡ Refused r → o .table ≡ emptyTable
+empty-of _ r (refusal number line) e = refl
+empty-of _ r (acceptance table a) e = let z : _≡_ {A = ℕ} 0 1 = cc in absurd (omega arith)
+
+-- a table that is accepted has all that may be used of it
+pub accepted-table : (text : List ℕ) → readText text .verdict ≡ Accepted → AcceptedTable (readText text .table)
+accepted-table text e = accepted-of (readText text) (settled text) e
+
+-- beside a refusal stands the empty table
+pub refused-empty : (text : List ℕ) (r : Refusal) → readText text .verdict ≡ Refused r → readText text .table ≡ emptyTable
+refused-empty text r e = empty-of (readText text) r (settled text) e

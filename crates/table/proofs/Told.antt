@@ -1,0 +1,125 @@
+-- What a refusal of a text tells: a number up to 11, and a line that a text of 16,384 bytes can have.
+-- Assumes nothing.
+use Prim.Native.Nat.{ℕ, suc, _+_, _≤_}
+use mathlib.Core.Path.{_≡_, refl, ap}
+use mathlib.Core.Bool.{Bool, true, false, cond, not}
+use mathlib.Core.List.{List, [], _∷_}
+use native.Mathlib.Omega.{arith}
+use borrow.Author.Tests.{ltb-false}
+use lib.Dec.{ltb, eqb}
+use lib.ListN.{length}
+use Rattle.text.specs.Cut.{lead, lines}
+use Rattle.table.specs.declared.Name.{Name}
+use Rattle.table.specs.declared.Table.{Table}
+use Rattle.table.specs.declared.Refusal.{Refusal}
+use Rattle.table.specs.declared.Outcome.{Outcome}
+use Rattle.table.specs.declared.HeadLine.{HeadLine}
+use Rattle.table.specs.declared.TaskLine.{TaskLine}
+use Rattle.table.specs.declared.Finding.{Finding}
+use Rattle.table.specs.declared.Finding.the-variants.{Fine, Fault}
+use Rattle.table.specs.declared.Verdict.the-variants.{Refused}
+use Rattle.table.specs.Faults.{Rows, firstFault, isEnded, textRows, textFault, headRows, headFault, taskRows, taskFault, endRows, endFault}
+use Rattle.table.specs.Said.{headSaid}
+use Rattle.table.specs.Reading.{refused, accepted, unlessFault, finished, readFrom, readLines, readText}
+
+-- a refusal of the outcome, if it is one, tells a number up to 11 and a line up to `most`
+pub record Told (most : ℕ) (r : Refusal) : Type 0 where
+  pub number : r .number ≤ 11
+  pub line : r .line ≤ most
+
+abbrev ToldBy : ℕ → Outcome → Type 0
+ToldBy most o = (r : Refusal) → o .verdict ≡ Refused r → Told most r
+
+refused-told : (n line most : ℕ) → n ≤ 11 → line ≤ most → ToldBy most (refused n line)
+refused-told n line most p q r e =
+    let s : _≡_ {A = Refusal} (record { number = n; line = line }) r = cc in
+    record { number = omega (arith, ap (λ (x : Refusal). x .number) s); line = omega (arith, ap (λ (x : Refusal). x .line) s) }
+
+-- ---- the rows of a line
+
+abbrev Small : Rows → Type 0
+Small [] = Unit {0}
+Small (r ∷ rows) = (r .1 ≤ 11) × Small rows
+
+first-small : (rows : Rows) → Small rows → (n : ℕ) → firstFault rows ≡ Fault n → n ≤ 11
+unfolding firstFault
+first-small [] p n e = let z : _≡_ {A = ℕ} 0 1 = cc in absurd (omega arith)
+first-small (r ∷ rows) p n e = go (r .0) e (first-small rows (p .1) n)
+  where
+    go : (t : Bool) → cond t (Fault (r .1)) (firstFault rows) ≡ Fault n → (firstFault rows ≡ Fault n → n ≤ 11) → n ≤ 11
+    go true e h = let s : r .1 ≡ n = cc in omega (arith, p .0)
+    go false e h = h e
+
+head-small : (said : HeadLine) (n : ℕ) → headFault said ≡ Fault n → n ≤ 11
+unfolding headFault
+head-small said = first-small (headRows said) (omega arith, (omega arith, (omega arith, tt)))
+
+task-small : (count : ℕ) (names : List Name) (said : TaskLine) (n : ℕ) → taskFault count names said ≡ Fault n → n ≤ 11
+unfolding taskFault
+task-small count names said =
+    first-small (taskRows count names said)
+    (omega arith, (omega arith, (omega arith, (omega arith, (omega arith, (omega arith, (omega arith, (omega arith, tt))))))))
+
+end-small : (count n : ℕ) → endFault count ≡ Fault n → n ≤ 11
+unfolding endFault
+end-small count = first-small (endRows count) (omega arith, tt)
+
+text-small : (text : List ℕ) (n : ℕ) → textFault text ≡ Fault n → n ≤ 11
+unfolding textFault
+text-small text = first-small (textRows text) (omega arith, (omega arith, tt))
+
+-- a condition is not met where there is no fault
+not-met : (t : Bool) (n : ℕ) (rows : Rows) → firstFault ((t, n) ∷ rows) ≡ Fine → t ≡ false
+unfolding firstFault
+not-met true n rows e = let z : _≡_ {A = ℕ} 0 1 = cc in absurd (omega arith)
+not-met false n rows e = refl
+
+not-long : (text : List ℕ) → textFault text ≡ Fine → length text ≤ 16384
+unfolding textFault
+not-long text e = ltb-false 16384 (length text) (not-met (ltb 16384 (length text)) 1 ((not (isEnded text), 2) ∷ []) e)
+
+-- ---- line after line
+
+unless-told : (f : Finding) (line most : ℕ) (o : Outcome) → ((n : ℕ) → f ≡ Fault n → n ≤ 11) → line ≤ most → ToldBy most o
+    → ToldBy most (unlessFault f line o)
+unless-told Fine line most o p h t = t
+unless-told (Fault n) line most o p h t = refused-told n line most (p n refl) h
+
+accepted-told : (table : Table) (most : ℕ) → ToldBy most (accepted table)
+accepted-told table most r e = let z : _≡_ {A = ℕ} 0 1 = cc in absurd (omega arith)
+
+finished-told : (table : Table) (most : ℕ) → 1 ≤ most → ToldBy most (finished table)
+finished-told table most h = unless-told _ 1 most (accepted table) (end-small (table .count)) h (accepted-told table most)
+
+from-told : (ls : List (List ℕ)) (line : ℕ) (table : Table) (most : ℕ) → 1 ≤ line → line + length ls ≤ most → ToldBy most (readFrom line table ls)
+unfolding readFrom
+from-told [] line table most l h = finished-told table most (omega arith)
+from-told (s ∷ ls) line table most l h =
+    unless-told _ line most _ (task-small _ _ _) (omega arith) (from-told ls (line + 1) _ most (omega arith) (omega arith))
+
+lines-told : (ls : List (List ℕ)) (most : ℕ) → 1 ≤ most → 1 + length ls ≤ most → ToldBy most (readLines ls)
+unfolding readLines
+lines-told [] most l h = refused-told 2 0 most (omega arith) (omega arith)
+lines-told (s ∷ ls) most l h =
+    unless-told _ 1 most _ (head-small (headSaid s)) (omega arith) (from-told ls 2 _ most (omega arith) (omega arith))
+
+lead-long : (b : ℕ) (ls : List (List ℕ)) → length (lead b ls) ≤ suc (length ls)
+lead-long b [] = omega arith
+lead-long b (l ∷ ls) = omega arith
+
+lines-long : (s : List ℕ) → length (lines s) ≤ length s
+unfolding lines
+lines-long [] = omega arith
+lines-long (b ∷ s) = go (eqb b 10) (lines-long s)
+  where
+    go : (t : Bool) → length (lines s) ≤ length s → length (cond t ([] ∷ lines s) (lead b (lines s))) ≤ suc (length s)
+    go true h = omega arith
+    go false h = omega (arith, lead-long b (lines s))
+
+pub read-told : (text : List ℕ) (r : Refusal) → readText text .verdict ≡ Refused r → Told 16385 r
+unfolding readText
+read-told text = go (textFault text) refl
+  where
+    go : (f : Finding) → textFault text ≡ f → ToldBy 16385 (unlessFault f 0 (readLines (lines text)))
+    go Fine e = lines-told (lines text) 16385 (omega arith) (omega (arith, lines-long text, not-long text e))
+    go (Fault n) e = refused-told n 0 16385 (text-small text n e) (omega arith)

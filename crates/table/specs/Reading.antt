@@ -1,0 +1,52 @@
+-- The reading of a whole text: the accepted table, or the first refusal and the line told.
+-- Assumes nothing.
+use Prim.Native.Nat.{ℕ, _+_}
+use mathlib.Core.List.{List, [], _∷_}
+use Rattle.text.specs.Cut.{lines}
+use Rattle.table.specs.declared.Table.{Table}
+use Rattle.table.specs.declared.Outcome.{Outcome}
+use Rattle.table.specs.declared.HeadLine.{HeadLine}
+use Rattle.table.specs.declared.Finding.{Finding}
+use Rattle.table.specs.declared.Finding.the-variants.{Fine, Fault}
+use Rattle.table.specs.declared.Verdict.the-variants.{Accepted, Refused}
+use Rattle.table.specs.Tasks.{newTable, emptyTable, withTask, namesOf}
+use Rattle.table.specs.Said.{headSaid, taskSaid}
+use Rattle.table.specs.Faults.{textFault, headFault, taskFault, endFault}
+
+-- a refusal has its number and its line, and beside it stands the empty table
+abbrev pub refused : ℕ → ℕ → Outcome
+refused number line = record {
+  verdict = Refused (record { number = number; line = line });
+  table = emptyTable;
+}
+
+abbrev pub accepted : Table → Outcome
+accepted table = record { verdict = Accepted; table = table }
+
+-- what follows, unless there is a fault, of which this line is told
+abbrev pub unlessFault : Finding → ℕ → Outcome → Outcome
+unlessFault Fine line next = next
+unlessFault (Fault number) line next = refused number line
+
+-- after the last line
+abbrev pub finished : Table → Outcome
+finished table = unlessFault (endFault (table .count)) 1 (accepted table)
+
+-- the task lines from a line on, after the table so far
+unfoldable pub readFrom : ℕ → Table → List (List ℕ) → Outcome
+readFrom line table [] = finished table
+readFrom line table (l ∷ ls) =
+    unlessFault (taskFault (table .count) (namesOf table) (taskSaid (table .sets) l))
+    line
+    (readFrom (line + 1) (withTask table (taskSaid (table .sets) l .task)) ls)
+
+-- the table that line 1 says
+abbrev pub headTable : HeadLine → Table
+headTable said = newTable (said .sets) (said .brt)
+
+unfoldable pub readLines : List (List ℕ) → Outcome
+readLines [] = refused 2 0
+readLines (l ∷ ls) = unlessFault (headFault (headSaid l)) 1 (readFrom 2 (headTable (headSaid l)) ls)
+
+unfoldable pub readText : List ℕ → Outcome
+readText text = unlessFault (textFault text) 0 (readLines (lines text))
