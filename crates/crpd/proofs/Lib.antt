@@ -2,3 +2,4 @@ pub mod Rows
 pub mod Steps
 pub mod Small
 pub mod Easier
+pub mod TableA

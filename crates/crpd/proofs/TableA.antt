@@ -1,0 +1,41 @@
+-- The whole way from a text to what is printed, by computation: the table text of three tasks that all evict the four cache sets, of which b uses
+-- two and c the other two, and its report.
+-- Assumes nothing.
+use mathlib.Core.Path.{_≡_, refl}
+use mathlib.Core.List.{List, [], _∷_}
+use Prim.Native.Nat.{ℕ}
+use Rattle.text.specs.Bytes.{all, same}
+use Rattle.text.specs.Cut.{upTo, after, count, pastTabs, field, lines}
+use Rattle.text.specs.Fields.{digitsFrom, readNumber, hasShape, isName}
+use Rattle.sets.specs.Field.{hexDigit, readHex, readSet}
+use Rattle.sets.specs.Sets.{∅, _∪_, _∩_, count as counted, size}
+use Rattle.sets.specs.Words.{number, members, wordsOf}
+use Rattle.table.specs.Faults.{firstFault, textFault, headInRange, headFault, taskInRange, taskInOrder, knows, taskFault, endFault}
+use Rattle.table.specs.Reading.{readFrom, readLines, readText}
+use Rattle.table.specs.Said.{headSaid, fieldsSaid, taskSaid}
+use Rattle.table.specs.Tasks.{at, withTask}
+use Rattle.response.specs.Demand.{demandOf}
+use Rattle.response.specs.Least.{firstOf, leastOf}
+use Rattle.response.specs.Positions.{run, fold}
+use Rattle.costs.specs.Costs.{reloadsOf}
+use Rattle.analysis.specs.Analysis.{answerOf, responseOf}
+use Rattle.writer.specs.Text.{digits, spelled}
+use Rattle.report.specs.Report.{taskLine, verdictLine, reportOf}
+use Rattle.crpd.specs.Operations.{printed}
+
+-- K 4 1; T a 1 20 20 0 0 0 f; T b 2 40 40 0 0 3 f; T c 2 60 60 0 0 c f
+abbrev text : List ℕ
+text =
+    75 ∷ 9 ∷ 52 ∷ 9 ∷ 49 ∷ 10 ∷
+    84 ∷ 9 ∷ 97 ∷ 9 ∷ 49 ∷ 9 ∷ 50 ∷ 48 ∷ 9 ∷ 50 ∷ 48 ∷ 9 ∷ 48 ∷ 9 ∷ 48 ∷ 9 ∷ 48 ∷ 9 ∷ 102 ∷ 10 ∷
+    84 ∷ 9 ∷ 98 ∷ 9 ∷ 50 ∷ 9 ∷ 52 ∷ 48 ∷ 9 ∷ 52 ∷ 48 ∷ 9 ∷ 48 ∷ 9 ∷ 48 ∷ 9 ∷ 51 ∷ 9 ∷ 102 ∷ 10 ∷
+    84 ∷ 9 ∷ 99 ∷ 9 ∷ 50 ∷ 9 ∷ 54 ∷ 48 ∷ 9 ∷ 54 ∷ 48 ∷ 9 ∷ 48 ∷ 9 ∷ 48 ∷ 9 ∷ 99 ∷ 9 ∷ 102 ∷ 10 ∷ []
+
+-- R a 20 1 1 1 1 1 1; R b 40 3 7 5 5 5 5; R c 60 5 13 9 11 9 9; V with six times yes
+pub printed-of-table-a : printed text ≡
+    82 ∷ 9 ∷ 97 ∷ 9 ∷ 50 ∷ 48 ∷ 9 ∷ 49 ∷ 9 ∷ 49 ∷ 9 ∷ 49 ∷ 9 ∷ 49 ∷ 9 ∷ 49 ∷ 9 ∷ 49 ∷ 10 ∷
+    82 ∷ 9 ∷ 98 ∷ 9 ∷ 52 ∷ 48 ∷ 9 ∷ 51 ∷ 9 ∷ 55 ∷ 9 ∷ 53 ∷ 9 ∷ 53 ∷ 9 ∷ 53 ∷ 9 ∷ 53 ∷ 10 ∷
+    82 ∷ 9 ∷ 99 ∷ 9 ∷ 54 ∷ 48 ∷ 9 ∷ 53 ∷ 9 ∷ 49 ∷ 51 ∷ 9 ∷ 57 ∷ 9 ∷ 49 ∷ 49 ∷ 9 ∷ 57 ∷ 9 ∷ 57 ∷ 10 ∷
+    86 ∷ 9 ∷ 121 ∷ 101 ∷ 115 ∷ 9 ∷ 121 ∷ 101 ∷ 115 ∷ 9 ∷ 121 ∷ 101 ∷ 115 ∷ 9 ∷ 121 ∷ 101 ∷ 115 ∷ 9 ∷ 121 ∷ 101 ∷ 115 ∷ 9 ∷ 121 ∷ 101 ∷ 115 ∷ 10 ∷ []
+unfolding printed all same upTo after count pastTabs field lines digitsFrom readNumber hasShape isName hexDigit readHex readSet ∅ _∪_ _∩_ counted size number members wordsOf firstFault textFault headInRange headFault taskInRange taskInOrder knows taskFault endFault readFrom readLines readText headSaid fieldsSaid taskSaid at withTask demandOf firstOf leastOf run fold reloadsOf answerOf responseOf digits spelled taskLine verdictLine reportOf
+printed-of-table-a = refl
