@@ -73,12 +73,12 @@ pub fn reloads(ucb: &[u64], ecb: &[u64], method: u64, i: usize, j: usize) -> Rel
     }
 }
 
-// What one activation asks for, of a task with `work` ticks and `n` reloads.
-fn weight(work: u64, n: Reloads, brt: Ticks) -> u64
-    requires { ⌜ (work ≤ 250000000) × (n .0 ≤ 2048) × (brt .0 ≤ 100000) ⌝ }
-    ensures { λ r. ⌜ r ≡ work + brt .0 * n .0 ⌝ }
+// What one activation asks for: its own work, and the time of its reloads.
+fn weight(work: Ticks, n: Reloads, brt: Ticks) -> Ticks
+    requires { ⌜ (work .0 ≤ 250000000) × (n .0 ≤ 2048) × (brt .0 ≤ 100000) ⌝ }
+    ensures { λ r. ⌜ r .0 ≡ work .0 + brt .0 * n .0 ⌝ }
 {
-    work + n.time(brt).0
+    Ticks(work.0 + n.time(brt).0)
 }
 
 // What each task above i asks for at an activation, under one of the methods 0 to 4.
@@ -95,7 +95,7 @@ pub fn weights(
 {
     let mut all = [0u64; 32];
     for j in 0..i {
-        all[j] = weight(works[j], reloads(ucb, ecb, method, i, j), brt);
+        all[j] = weight(Ticks(works[j]), reloads(ucb, ecb, method, i, j), brt).0;
     }
     all
 }
@@ -125,15 +125,15 @@ fn put(
     method: usize,
     i: usize,
     j: usize,
-    work: u64,
+    work: Ticks,
     n: Reloads,
     brt: Ticks,
 )
-    requires { ⌜ (method ≤ 4) × (i < 32) × (j < 32) × (work ≤ 250000000) × (n .0 ≤ 2048) × (brt .0 ≤ 100000) × (length (now weights) ≡ 5120) ⌝ }
-    ensures { λ _. ⌜ (now (weights .exit) ≡ set (now (weights .entry)) (place method i j) (work + brt .0 * n .0)) × (length (now (weights .exit)) ≡ 5120) ⌝ }
+    requires { ⌜ (method ≤ 4) × (i < 32) × (j < 32) × (work .0 ≤ 250000000) × (n .0 ≤ 2048) × (brt .0 ≤ 100000) × (length (now weights) ≡ 5120) ⌝ }
+    ensures { λ _. ⌜ (now (weights .exit) ≡ set (now (weights .entry)) (place method i j) (work .0 + brt .0 * n .0)) × (length (now (weights .exit)) ≡ 5120) ⌝ }
 {
     let at = (method * 32 + i) * 32 + j;
-    weights[at] = weight(work, n, brt);
+    weights[at] = weight(work, n, brt).0;
 }
 
 // Puts in the weights of j above i, from its work, its ECB and what is gathered.
@@ -141,13 +141,13 @@ fn put_pair(
     weights: &mut [u64; 5120],
     i: usize,
     j: usize,
-    work: u64,
+    work: Ticks,
     ecb: CacheSet,
     gathered: Gathered,
     brt: Ticks,
 )
-    requires { ⌜ (i < 32) × (j < 32) × (work ≤ 250000000) × (brt .0 ≤ 100000) × Small gathered × (length (now weights) ≡ 5120) ⌝ }
-    ensures { λ _. ⌜ Weighed (InPair i j 5) (λ m _ _. work + brt .0 * getD (countsOf (members ecb) gathered) m 0) (now (weights .entry)) (now (weights .exit)) ⌝ }
+    requires { ⌜ (i < 32) × (j < 32) × (work .0 ≤ 250000000) × (brt .0 ≤ 100000) × Small gathered × (length (now weights) ≡ 5120) ⌝ }
+    ensures { λ _. ⌜ Weighed (InPair i j 5) (λ m _ _. work .0 + brt .0 * getD (countsOf (members ecb) gathered) m 0) (now (weights .entry)) (now (weights .exit)) ⌝ }
 {
     let evicting = ecb.size();
     let hit = gathered.all.intersection(ecb).size();
@@ -171,7 +171,7 @@ fn weigh_column(
     requires { ⌜ Lent (now works) (now ucb) (now ecb) (brt .0) count × (j < count) × (length (now weights) ≡ 5120) ⌝ }
     ensures { λ _. ⌜ Weighed (InColumn j count) (weightIn (now (works .entry)) (brt .0) (now (ucb .entry)) (now (ecb .entry))) (now (weights .entry)) (now (weights .exit)) ⌝ }
 {
-    let work = works[j];
+    let work = Ticks(works[j]);
     let evicting = CacheSet::at(ecb, j);
     let above = union_over(ecb, 0, j + 1);
     let mut gathered = Gathered {

@@ -5,8 +5,10 @@ use borrow.Author.Needs.{needs}
 use Rattle.costs.proofs.weight.Statement.{statement}
 use Rattle.costs.proofs.weight.Tie as tie
 
-add-result : tie.Need-add-result
-add-result c = omega (arith, c .before .time .ensures, mul-le-mul {n₂ = 100000} {m₂ = 2048} (c .before .before .pre .2) (c .before .before .pre .1))
+add-t5 : tie.Need-add-t5
+add-t5 c =
+    let p = c .before .before .before .pre in
+    omega (arith, c .before .before .time .ensures, mul-le-mul {n₂ = 100000} {m₂ = 2048} (p .2) (p .1))
 
 pub weight-spec : {M : Type 1} → statement M
-weight-spec = tie.close (tie.spec (λ c κs. search needs) add-result (λ c. search needs))
+weight-spec = tie.close (tie.spec (λ c κs. search needs) add-t5 (λ c. search needs))
