@@ -6,15 +6,14 @@ import os
 import re
 import sys
 
+# A function with a proof file is refused by an error; one that the checker proves by itself, by a note on the fact that it could not show.
+REFUSED = re.compile(r" error: |: it is not proved that ")
 UNFIT = re.compile(r"that can be named from here|has no field `|is not in scope|expected type `tie\.Need-|has no `Need-|Parse")
 
 
-def first_error(log):
+def first_refusal(log):
     with open(log, encoding="utf-8", errors="replace") as lines:
-        for line in lines:
-            if "error" in line:
-                return line.strip()
-    return ""
+        return next((line.strip() for line in lines if REFUSED.search(line)), "")
 
 
 def main():
@@ -23,12 +22,12 @@ def main():
     for edit in edits:
         crate, label = edit.split(os.sep)[1], os.path.splitext(os.path.basename(edit))[0]
         log = os.path.join("target", "must-fail", crate, label, ".log")
-        error = first_error(log) if os.path.exists(log) else ""
-        if error and not UNFIT.search(error):
+        refusal = first_refusal(log) if os.path.exists(log) else ""
+        if refusal and not UNFIT.search(refusal):
             passed += 1
         else:
             failed += 1
-            print(f"{crate}/{label}: not refused by a fact: {error[:300] or 'no log'}")
+            print(f"{crate}/{label}: not refused by a fact: {refusal[:300] or 'no refusal in the log'}")
     print(f"{passed} passed, {failed} failed")
     return failed > 0
 
