@@ -6,9 +6,10 @@ set -eu
 
 usage() {
     cat <<'EOF'
-usage: build.sh [--library FILE | --stand-in] [--out FOLDER]
+usage: build.sh [--library FILE | --stand-in] [--parts FILE] [--out FOLDER]
 
   --library FILE   the proved library (default: target/staticlib/libcrpd.a of the repository)
+  --parts FILE     its parts, for the benchmark (default: target/staticlib/libparts.a, if it is there)
   --stand-in       link no library: the plain version stands in for it
   --out FOLDER     where the programs go (default: target/compare of the repository)
 
@@ -20,15 +21,20 @@ here=$(cd "$(dirname "$0")" && pwd -P)
 root=$(dirname "$here")
 . "$root/tools/x86-64.sh"
 library=$root/target/staticlib/libcrpd.a
+parts=$root/target/staticlib/libparts.a
 stand_in=no
 out=$root/target/compare
 
 while [ $# -gt 0 ]; do
     case $1 in
     --stand-in) stand_in=yes ;;
-    --library | --out)
+    --library | --parts | --out)
         [ $# -ge 2 ] || { usage >&2; exit 2; }
-        if [ "$1" = --out ]; then out=$2; else library=$2; fi
+        case $1 in
+        --library) library=$2 ;;
+        --parts) parts=$2 ;;
+        --out) out=$2 ;;
+        esac
         shift
         ;;
     --help) usage; exit 0 ;;
@@ -50,7 +56,8 @@ if [ "$stand_in" = no ]; then
     mkdir -p "$out/library"
     cp "$library" "$out/library/libcrpd.a"
     set -- "$@" -L "native=$out/library" --cfg 'feature="library"'
-    if grep -q bench_read "$library"; then
+    if [ -r "$parts" ]; then
+        cp "$parts" "$out/library/libparts.a"
         set -- "$@" --cfg 'feature="parts"'
     fi
 fi

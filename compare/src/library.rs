@@ -35,11 +35,12 @@ mod linked {
     }
 }
 
-/// Functions that a library may export for the benchmark alone, to time its parts apart.
+/// The parts of the proved code's work, for the benchmark to time apart.
 #[cfg(feature = "parts")]
 pub mod parts {
+    #[link(name = "parts", kind = "static")]
     extern "C" {
-        /// Reads the table, and gives any number that depends on it.
+        /// Reads the table.
         fn bench_read(text: *const u8, text_len: usize) -> u64;
         /// Reads the table once and answers every task under every method `times` times.
         fn bench_answers(text: *const u8, text_len: usize, times: u64) -> u64;

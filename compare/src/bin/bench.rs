@@ -18,7 +18,7 @@ const SEED: u64 = 0xbe7c4;
 const PLAIN_TURNS: u64 = 5_000_000;
 
 /// The fastest of so many rounds counts.
-const ROUNDS: u32 = 8;
+const ROUNDS: u32 = 40;
 
 /// Room for every report.
 const ROOM: [u8; 2_746] = [0; 2_746];
@@ -167,6 +167,12 @@ fn time_both(what: &str, texts: &[Vec<u8>], options: &Options, one: Work, other:
     );
 }
 
+/// The shortest of some measurements.
+fn fastest(options: &Options, mut seconds: impl FnMut(Duration) -> f64) -> f64 {
+    let rounds = (0..ROUNDS).map(|_| seconds(options.time / ROUNDS));
+    rounds.fold(f64::INFINITY, f64::min)
+}
+
 /// How many texts are done in a second.
 fn rate(texts: &[Vec<u8>], time: Duration, work: Work) -> f64 {
     1.0 / seconds_each(texts, time, |text| work(text))
@@ -219,9 +225,8 @@ fn time_parts(texts: &[Vec<u8>], options: &Options) {
 #[cfg(feature = "parts")]
 fn library_parts(texts: &[Vec<u8>], options: &Options) -> Option<Parts> {
     use library::parts;
-    const TIMES: u64 = 20;
-    let time = options.time / 4;
-    let each = |work: Work| 1.0 / rate(texts, time, work);
+    const TIMES: u64 = 1;
+    let each = |work: Work| fastest(options, |time| 1.0 / rate(texts, time, work));
     let read = each(&mut parts::read);
     let answered = each(&mut |text| parts::answers(text, TIMES));
     let answer = (answered - read) / TIMES as f64;
@@ -241,7 +246,6 @@ fn library_parts(_texts: &[Vec<u8>], _options: &Options) -> Option<Parts> {
 }
 
 fn plain_parts(texts: &[Vec<u8>], options: &Options) -> Parts {
-    let time = options.time / 4;
     let mut read = |text: &[u8]| plain::read(text).map_or(0, |table| table.tasks() as u64);
     let tables = texts.iter().filter_map(|text| plain::read(text).ok());
     let tables: Vec<plain::Table> = tables.collect();
@@ -250,10 +254,14 @@ fn plain_parts(texts: &[Vec<u8>], options: &Options) -> Parts {
     let answered: Vec<_> = tables.iter().zip(&answers).collect();
     let mut out = ROOM;
     Parts {
-        read: 1.0 / rate(texts, time, &mut read),
-        answer: seconds_each(&tables, time, |table| answer(table)[0][0]),
-        write: seconds_each(&answered, time, |(table, answers)| {
-            plain::write(table, answers, &mut out)
+        read: fastest(options, |time| 1.0 / rate(texts, time, &mut read)),
+        answer: fastest(options, |time| {
+            seconds_each(&tables, time, |table| answer(table)[0][0])
+        }),
+        write: fastest(options, |time| {
+            seconds_each(&answered, time, |(table, answers)| {
+                plain::write(table, answers, &mut out)
+            })
         }),
     }
 }

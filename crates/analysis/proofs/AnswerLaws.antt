@@ -1,12 +1,11 @@
 -- What the code hands to the iteration is what the definition names. Assumes nothing.
-use Prim.Native.Nat.{ℕ, _+_, _-_, _*_, _≤_, _<_}
+use Prim.Native.Nat.{ℕ, _+_, _*_, _≤_, _<_}
 use native.Mathlib.Omega.{arith}
 use mathlib.Core.Path.{_≡_, refl, ap, ap₂, _∙_}
 use mathlib.Core.Bool.{Bool, true, false, cond}
 use mathlib.Core.List.{List, map}
 use lib.Dec.{eqb}
-use lib.ListN.{length, getD, drop, length-take, length-drop}
-use lib.Seq.{getD-take, getD-drop}
+use lib.ListN.{length, getD}
 use borrow.Author.Tests.{eq-eqb, ne-eqb, eqb-false}
 use Rattle.sets.specs.Words.{members}
 use Rattle.sets.specs.Stored.{setAt}
@@ -22,11 +21,11 @@ use Rattle.response.proofs.DemandLaws.{demand-same}
 use Rattle.table.specs.declared.Table.{Table}
 use Rattle.table.specs.Accepted.{AcceptedTable}
 use Rattle.costs.specs.Costs.{ucb, ecb, reloadsOf, termAt}
-use Rattle.costs.specs.Lent.{Lent, weightIn, place, Weighed, Pairs}
+use Rattle.costs.specs.Lent.{Lent, weightIn}
 use Rattle.costs.proofs.LentLaws.{front-at, front-long}
 use Rattle.costs.proofs.OrderLaws.{reloads-same, term-ranged}
 use Rattle.analysis.specs.Analysis.{ownOf, limitOf, answerOf, withCombined, responseOf, methods, cell, rowOf}
-use Rattle.analysis.specs.Lists.{Numbers, Sets, leastIn, weightsIn, singleIn, TaskHanded, rowAt, answerIn, rowIn, RowHanded, RowsHanded}
+use Rattle.analysis.specs.Lists.{Numbers, Sets, leastIn, weightsIn, singleIn, TaskHanded, rowIn, RowsHanded}
 
 -- what an answer means
 pub answer-means : (table : Table) (m i : ℕ) → LeastWithin (demandOf (ownOf table i) (termAt table m i) i) (limitOf table i) (answerOf table m i)
@@ -123,11 +122,6 @@ module _ (table : Table) (accepted : AcceptedTable table) (n i : ℕ) (here : i 
   unfolding responseOf
   plain-is m e = least-by 0 ws plain ∙ rw e (combined-below (λ k. answerOf table k i) 0 (omega arith))
 
-  -- no method's weights are below those of method 0
-  plain-least : (m j : ℕ) → weightAt table 0 i j ≤ weightAt table m i j
-  unfolding reloadsOf
-  plain-least m j = omega arith
-
   module _ (us es : List ℕ) (sets : Sets table n us es) where
     weight-is : (m j : ℕ) → j < i → weightIn ws (table .brt .0) us es m i j ≡ weightAt table m i j
     weight-is m j l =
@@ -149,53 +143,34 @@ module _ (table : Table) (accepted : AcceptedTable table) (n i : ℕ) (here : i 
           handed = λ m h. handed-by m _ (weights-are m) (omega (arith, front-long (weightIn ws (table .brt .0) us es m i) i (omega arith)));
         }
 
+    single-is : (m : ℕ) → singleIn (getD os i 0) (getD ls i 0) i ps js ws us es (table .brt .0) m ≡ answerOf table m i
+    single-is m = least-by m _ (weights-are m)
+
     pub response-is : (m : ℕ) → m ≤ 5
         → withCombined (singleIn (getD os i 0) (getD ls i 0) i ps js ws us es (table .brt .0)) m ≡ responseOf table m i
     unfolding responseOf
-    response-is m h = combined-same (singleIn (getD os i 0) (getD ls i 0) i ps js ws us es (table .brt .0)) (λ k. answerOf table k i) m h (λ k l. least-by k _ (weights-are k))
+    response-is m h =
+        combined-same (singleIn (getD os i 0) (getD ls i 0) i ps js ws us es (table .brt .0)) (λ k. answerOf table k i) m h (λ k l. single-is k)
 
-    -- ---- all tasks
-
-    module _ (vs : List ℕ) (few : n ≤ 32) (weighed : (m j : ℕ) → m ≤ 4 → j < i → getD vs (place m i j) 0 ≡ weightIn ws (table .brt .0) us es m i j)
-        (long : length vs ≡ 5120) where
-      row-is : (m : ℕ) → m ≤ 4 → (j : ℕ) → j < i → getD (rowAt vs i m) j 0 ≡ weightAt table m i j
-      row-is m h j l =
-          let from = (m * 32 + i) * 32 in
-          getD-take (from + 32 - from) (drop from vs) j 0 (omega arith) ∙ getD-drop from vs j 0 ∙ weighed m j h l ∙ weight-is m j l
-
-      row-long : (m : ℕ) → m ≤ 4 → i ≤ length (rowAt vs i m)
-      row-long m h = simp (length-take, length-drop) (omega arith)
-
-      pub row-handed : RowHanded (getD os i 0) (getD ls i 0) i ps js vs
-      row-handed = record {
-        row = omega arith;
-        long = long;
-        handed = λ m h. handed-by m (rowAt vs i m) (row-is m h) (row-long m h);
-        under = λ m j h l. omega (arith, row-is 0 (omega arith) j l, row-is m h j l, plain-least m j);
-      }
-
-      pub rows-are : rowIn os ls ps js vs i ≡ rowOf table i
-      unfolding responseOf
-      rows-are =
-          ap (λ (cs : List Cell). record { cells = cs })
-          (cells-same (answerIn (getD os i 0) (getD ls i 0) i ps js vs) (λ m. answerOf table m i) (λ m h. least-by m _ (row-is m h)))
+-- ---- all tasks
 
 module _ (table : Table) (accepted : AcceptedTable table) (ps js ws os ls : List ℕ) (numbers : Numbers table (table .count) ps js ws os ls)
-    (us es : List ℕ) (sets : Sets table (table .count) us es) (before vs : List ℕ)
-    (weighed : Weighed (Pairs (table .count)) (weightIn ws (table .brt .0) us es) before vs) where
-  pub rows-handed : RowsHanded os ls ps js vs (table .count)
+    (us es : List ℕ) (sets : Sets table (table .count) us es) where
+  pub rows-handed : RowsHanded os ls ps js ws us es (table .brt .0) (table .count)
   rows-handed =
       let few = accepted .few in
       record {
         few = few;
         owns-long = omega (arith, numbers .own .long);
         limits-long = omega (arith, numbers .limit .long);
-        rows = λ i l. row-handed table accepted (table .count) i l (omega arith) ps js ws os ls numbers us es sets vs few
-            (λ m j h k. weighed .each m i j (h, k, l)) (weighed .long);
+        ecb-long = omega (arith, sets .ecb-long);
+        rows = λ i l. task-handed table accepted (table .count) i l (omega arith) ps js ws os ls numbers us es sets;
       }
 
-  pub rows-same : map (rowIn os ls ps js vs) (hp (table .count)) ≡ map (rowOf table) (hp (table .count))
+  pub rows-same : map (rowIn os ls ps js ws us es (table .brt .0)) (hp (table .count)) ≡ map (rowOf table) (hp (table .count))
+  unfolding responseOf
   rows-same =
       map-same _ _ (table .count)
-      (λ i l. rows-are table accepted (table .count) i l (omega arith) ps js ws os ls numbers us es sets vs (accepted .few)
-      (λ m j h k. weighed .each m i j (h, k, l)) (weighed .long))
+      (λ i l. ap (λ (cs : List Cell). record { cells = cs })
+      (cells-same (singleIn (getD os i 0) (getD ls i 0) i ps js ws us es (table .brt .0)) (λ m. answerOf table m i)
+      (λ m h. single-is table accepted (table .count) i l (omega arith) ps js ws os ls numbers us es sets m)))

@@ -1,7 +1,7 @@
 -- A table's numbers and sets as lists, and the answers by lists.
 use Prim.Native.Nat.{ℕ, _+_, _-_, _*_, _<_, _≤_}
 use mathlib.Core.Path.{_≡_}
-use mathlib.Core.List.{List, map}
+use mathlib.Core.List.{List, [], _∷_, map}
 use lib.ListN.{getD, length, take, drop}
 use Rattle.sets.specs.Stored.{heldAt}
 use Rattle.response.specs.declared.Response.{Response}
@@ -52,29 +52,33 @@ pub record TaskHanded (own limit i : ℕ) (ps js works ucb ecb : List ℕ) (brt 
   pub lent : Lent works ucb ecb brt (i + 1)
   pub handed : (m : ℕ) → m ≤ 4 → Handed own ps js (weightsIn works ucb ecb brt i m) i limit
 
--- ---- all tasks
-
--- the weights of the tasks above i under method m, of a list for all pairs, and the answer by them
-abbrev pub rowAt : List ℕ → ℕ → ℕ → List ℕ
-rowAt ws i m = let from = (m * 32 + i) * 32 in take (from + 32 - from) (drop from ws)
-
-abbrev pub answerIn : ℕ → ℕ → ℕ → List ℕ → List ℕ → List ℕ → ℕ → Response
-answerIn own limit i ps js ws m = leastIn own limit i ps js (rowAt ws i m)
-
 -- the row of answers for the task at i
-abbrev pub rowIn : List ℕ → List ℕ → List ℕ → List ℕ → List ℕ → ℕ → Row
-rowIn owns limits ps js ws i =
-    record { cells = map (λ m. cell (withCombined (answerIn (getD owns i 0) (getD limits i 0) i ps js ws) m)) methods }
+abbrev pub rowIn : List ℕ → List ℕ → List ℕ → List ℕ → List ℕ → List ℕ → List ℕ → ℕ → ℕ → Row
+rowIn owns limits ps js works ucb ecb brt i =
+    record { cells = map (λ m. cell (withCombined (singleIn (getD owns i 0) (getD limits i 0) i ps js works ucb ecb brt) m)) methods }
 
--- what these answers are to be handed: no method's weights are below those of method 0
-pub record RowHanded (own limit i : ℕ) (ps js ws : List ℕ) : Type 0 where
-  pub row : i < 32
-  pub long : length ws ≡ 5120
-  pub handed : (m : ℕ) → m ≤ 4 → Handed own ps js (rowAt ws i m) i limit
-  pub under : (m j : ℕ) → m ≤ 4 → j < i → getD (rowAt ws i 0) j 0 ≤ getD (rowAt ws i m) j 0
-
-pub record RowsHanded (owns limits ps js ws : List ℕ) (count : ℕ) : Type 0 where
+-- what the answers for the first `count` tasks are to be handed
+pub record RowsHanded (owns limits ps js works ucb ecb : List ℕ) (brt count : ℕ) : Type 0 where
   pub few : count ≤ 32
   pub owns-long : count ≤ length owns
   pub limits-long : count ≤ length limits
-  pub rows : (i : ℕ) → i < count → RowHanded (getD owns i 0) (getD limits i 0) i ps js ws
+  pub ecb-long : 4 * count ≤ length ecb
+  pub rows : (i : ℕ) → i < count → TaskHanded (getD owns i 0) (getD limits i 0) i ps js works ucb ecb brt
+
+-- ---- one task, by a list of the weights under the methods 0 to 4
+
+-- those of method m, and the answer by them
+abbrev pub rowAt : List ℕ → ℕ → List ℕ
+rowAt ws m = let from = m * 32 in take (from + 32 - from) (drop from ws)
+
+abbrev pub answerIn : ℕ → ℕ → ℕ → List ℕ → List ℕ → List ℕ → ℕ → Response
+answerIn own limit i ps js ws m = leastIn own limit i ps js (rowAt ws m)
+
+-- a method that never has larger weights than m: UCB-Union for ECB-Only, ECB-Union for UCB-Only, and no reloads at all for the others
+abbrev pub cheaper : ℕ → ℕ
+cheaper m = getD (0 ∷ 3 ∷ 4 ∷ 0 ∷ 0 ∷ []) m 0
+
+pub record RowHanded (own limit i : ℕ) (ps js ws : List ℕ) : Type 0 where
+  pub long : length ws ≡ 160
+  pub handed : (m : ℕ) → m ≤ 4 → Handed own ps js (rowAt ws m) i limit
+  pub under : (m j : ℕ) → m ≤ 4 → j < i → getD (rowAt ws (cheaper m)) j 0 ≤ getD (rowAt ws m) j 0

@@ -7,15 +7,14 @@ use table::Table;
 use units::Ticks;
 ghost use mathlib.Core.Path.{_≡_};
 ghost use mathlib.Core.List.{map};
-ghost use Prim.Native.Nat.{_≤_, _<_};
-ghost use lib.ListN.{length, getD, take};
+ghost use Prim.Native.Nat.{_≤_};
+ghost use lib.ListN.{length, take};
 ghost use Rattle.response.specs.Positions.{hp};
-ghost use Rattle.response.specs.Demand.{demandOf};
 ghost use Rattle.response.specs.Flat.{flat};
-ghost use Rattle.response.specs.Least.{Reached};
+ghost use Rattle.response.specs.Counts.{Started};
 ghost use Rattle.table.specs.Accepted.{AcceptedTable};
-ghost use Rattle.analysis.specs.Analysis.{withCombined, responseOf, rowOf, Asked};
-ghost use Rattle.analysis.specs.Lists.{Numbers, Sets, singleIn, TaskHanded, rowAt, answerIn, rowIn, RowHanded, RowsHanded};
+ghost use Rattle.analysis.specs.Analysis.{withCombined, responseOf, methods, cell, rowOf, Asked};
+ghost use Rattle.analysis.specs.Lists.{Numbers, Sets, singleIn, TaskHanded, rowIn, RowsHanded, rowAt, answerIn, cheaper, RowHanded};
 
 // T, J, C, C + B and D - J of the first `n` tasks.
 fn numbers(
@@ -69,7 +68,8 @@ fn single(
     ensures { λ r. ⌜ r ≡ singleIn (own .0) (limit .0) i (now (periods .entry)) (now (jitters .entry)) (now (works .entry)) (now (ucb .entry)) (now (ecb .entry)) (brt .0) method ⌝ }
 {
     let weights = costs::weights(works, ucb, ecb, brt, method, i);
-    response::least(own, periods, jitters, &weights, i, limit, own)
+    let mut counts = [1u64; 32];
+    response::least(own, periods, jitters, &weights, i, limit, &mut counts)
 }
 
 // The same under one of the methods 0 to 5. Method 5 is the sooner of the answers of 3 and 4.
@@ -129,7 +129,8 @@ pub fn respond(table: Table, method: u64, i: usize) -> Response
     let own = Ticks(owns[i]);
     let limit = Ticks(limits[i]);
     if method == 0 {
-        return response::least(own, &periods, &jitters, &works, i, limit, own);
+        let mut counts = [1u64; 32];
+        return response::least(own, &periods, &jitters, &works, i, limit, &mut counts);
     }
     let mut ucb = [0u64; 128];
     let mut ecb = [0u64; 128];
@@ -149,8 +150,8 @@ pub fn respond(table: Table, method: u64, i: usize) -> Response
     )
 }
 
-// The answer for the task at i under one of the methods 0 to 4, by the weights of all pairs. No solution is below `start`.
-fn of_pairs(
+// The answer for the task at i under one of the methods 0 to 4, by the weights of its row. No solution is below `counts`.
+fn by_row(
     own: Ticks,
     limit: Ticks,
     i: usize,
@@ -158,73 +159,165 @@ fn of_pairs(
     jitters: &[u64],
     weights: &[u64],
     method: usize,
-    start: Ticks,
+    counts: &mut [u64; 32],
 ) -> Response
-    requires { ⌜ (method ≤ 4) × RowHanded (own .0) (limit .0) i (now periods) (now jitters) (now weights) × Reached (demandOf (own .0) (flat (now periods) (now jitters) (rowAt (now weights) i method)) i) (start .0) ⌝ }
+    requires { ⌜ (method ≤ 4) × RowHanded (own .0) (limit .0) i (now periods) (now jitters) (now weights) × Started (own .0) (flat (now periods) (now jitters) (rowAt (now weights) method)) i (now counts) ⌝ }
     ensures { λ r. ⌜ r ≡ answerIn (own .0) (limit .0) i (now (periods .entry)) (now (jitters .entry)) (now (weights .entry)) method ⌝ }
+    ensures { λ _. ⌜ Started (own .0) (flat (now (periods .entry)) (now (jitters .entry)) (rowAt (now (weights .entry)) method)) i (now (counts .exit)) ⌝ }
 {
-    let from = (method * 32 + i) * 32;
+    let from = method * 32;
     let to = from + 32;
-    response::least(own, periods, jitters, &weights[from..to], i, limit, start)
+    response::least(own, periods, jitters, &weights[from..to], i, limit, counts)
 }
 
-// The answers for the task at i under the methods 0 to 5. Those of 1 to 4 are looked for from that of 0 on.
-fn answers(
-    owns: &[u64],
-    limits: &[u64],
+// The same where the answer and the counts of a cheaper method are known: it goes on from there.
+fn after(
+    own: Ticks,
+    limit: Ticks,
+    i: usize,
     periods: &[u64],
     jitters: &[u64],
     weights: &[u64],
-    i: usize,
-) -> Row
-    requires { ⌜ (i < length (now owns)) × (i < length (now limits)) × RowHanded (getD (now owns) i 0) (getD (now limits) i 0) i (now periods) (now jitters) (now weights) ⌝ }
-    ensures { λ r. ⌜ r ≡ rowIn (now (owns .entry)) (now (limits .entry)) (now (periods .entry)) (now (jitters .entry)) (now (weights .entry)) i ⌝ }
+    method: usize,
+    known: Response,
+    counts: &mut [u64; 32],
+) -> Response
+    requires { ⌜ (method ≤ 4) × RowHanded (own .0) (limit .0) i (now periods) (now jitters) (now weights) × (known ≡ answerIn (own .0) (limit .0) i (now periods) (now jitters) (now weights) (cheaper method)) × Started (own .0) (flat (now periods) (now jitters) (rowAt (now weights) (cheaper method))) i (now counts) ⌝ }
+    ensures { λ r. ⌜ r ≡ answerIn (own .0) (limit .0) i (now (periods .entry)) (now (jitters .entry)) (now (weights .entry)) method ⌝ }
+    ensures { λ _. ⌜ Started (own .0) (flat (now (periods .entry)) (now (jitters .entry)) (rowAt (now (weights .entry)) method)) i (now (counts .exit)) ⌝ }
 {
-    let own = Ticks(owns[i]);
-    let limit = Ticks(limits[i]);
-    let none = of_pairs(own, limit, i, periods, jitters, weights, 0, own);
-    let Response::Within(start) = none else {
-        return Row {
-            cells: [Cell {
-                response: Response::Unschedulable,
-            }; 6],
-        };
+    let Response::Within(_) = known else {
+        return Response::Unschedulable;
     };
-    let mut cells = [Cell { response: none }; 6];
-    for m in 1..5 {
-        cells[m] = Cell {
-            response: of_pairs(own, limit, i, periods, jitters, weights, m, start),
-        };
-    }
-    let third = cells[3];
-    let fourth = cells[4];
-    let a = third.response;
-    let b = fourth.response;
-    cells[5] = Cell {
-        response: response::combined(a, b),
-    };
-    Row { cells }
+    by_row(own, limit, i, periods, jitters, weights, method, counts)
 }
 
-// The answers for the first `count` tasks.
+// The answers for the task at i under the methods 0 to 5. Each method goes on from a cheaper one: the two unions from no reloads at all,
+// ECB-Only from UCB-Union, and UCB-Only from ECB-Union.
+fn answers(
+    own: Ticks,
+    limit: Ticks,
+    i: usize,
+    periods: &[u64],
+    jitters: &[u64],
+    weights: &[u64],
+) -> Row
+    requires { ⌜ RowHanded (own .0) (limit .0) i (now periods) (now jitters) (now weights) ⌝ }
+    ensures { λ r. ⌜ r .cells ≡ map (λ m. cell (withCombined (answerIn (own .0) (limit .0) i (now (periods .entry)) (now (jitters .entry)) (now (weights .entry))) m)) methods ⌝ }
+{
+    let mut counts = [1u64; 32];
+    let none = by_row(own, limit, i, periods, jitters, weights, 0, &mut counts);
+    let mut others = counts;
+    let ucb_union = after(
+        own,
+        limit,
+        i,
+        periods,
+        jitters,
+        weights,
+        3,
+        none,
+        &mut counts,
+    );
+    let ecb_only = after(
+        own,
+        limit,
+        i,
+        periods,
+        jitters,
+        weights,
+        1,
+        ucb_union,
+        &mut counts,
+    );
+    let ecb_union = after(
+        own,
+        limit,
+        i,
+        periods,
+        jitters,
+        weights,
+        4,
+        none,
+        &mut others,
+    );
+    let ucb_only = after(
+        own,
+        limit,
+        i,
+        periods,
+        jitters,
+        weights,
+        2,
+        ecb_union,
+        &mut others,
+    );
+    let combined = response::combined(ucb_union, ecb_union);
+    Row {
+        cells: [
+            Cell { response: none },
+            Cell { response: ecb_only },
+            Cell { response: ucb_only },
+            Cell {
+                response: ucb_union,
+            },
+            Cell {
+                response: ecb_union,
+            },
+            Cell { response: combined },
+        ],
+    }
+}
+
+// The answers for the first `count` tasks. What pre-emption costs is carried down the rows.
 fn rows(
     owns: &[u64],
     limits: &[u64],
     periods: &[u64],
     jitters: &[u64],
-    weights: &[u64],
+    works: &[u64],
+    ucb: &[u64],
+    ecb: &[u64],
+    brt: Ticks,
     count: usize,
 ) -> [Row; 32]
-    requires { ⌜ RowsHanded (now owns) (now limits) (now periods) (now jitters) (now weights) count ⌝ }
-    ensures { λ r. ⌜ take count r ≡ map (rowIn (now (owns .entry)) (now (limits .entry)) (now (periods .entry)) (now (jitters .entry)) (now (weights .entry))) (hp count) ⌝ }
+    requires { ⌜ RowsHanded (now owns) (now limits) (now periods) (now jitters) (now works) (now ucb) (now ecb) (brt .0) count ⌝ }
+    ensures { λ r. ⌜ take count r ≡ map (rowIn (now (owns .entry)) (now (limits .entry)) (now (periods .entry)) (now (jitters .entry)) (now (works .entry)) (now (ucb .entry)) (now (ecb .entry)) (brt .0)) (hp count) ⌝ }
 {
+    let mut above = [0u64; 128];
+    let mut evicting = [0u64; 32];
+    costs::evictions(ecb, count, &mut above, &mut evicting);
+    let mut most = [0u64; 32];
+    let mut all = [0u64; 128];
+    let mut shared = [0u64; 32];
+    let mut weights = [0u64; 160];
     let mut rows = [Row {
         cells: [Cell {
             response: Response::Unschedulable,
         }; 6],
     }; 32];
     for i in 0..count {
-        rows[i] = answers(owns, limits, periods, jitters, weights, i);
+        costs::weigh_row(
+            works,
+            ucb,
+            ecb,
+            &above,
+            &evicting,
+            brt,
+            i,
+            &mut most,
+            &mut all,
+            &mut shared,
+            &mut weights,
+        );
+        rows[i] = answers(
+            Ticks(owns[i]),
+            Ticks(limits[i]),
+            i,
+            periods,
+            jitters,
+            &weights,
+        );
     }
     rows
 }
@@ -253,7 +346,15 @@ pub fn responses(table: Table) -> [Row; 32]
     let mut ecb = [0u64; 128];
     words(table, count, &mut ucb, &mut ecb);
     let brt = table.brt;
-    let mut weights = [0u64; 5120];
-    costs::weigh(&works, &ucb, &ecb, brt, count, &mut weights);
-    rows(&owns, &limits, &periods, &jitters, &weights, count)
+    rows(
+        &owns,
+        &limits,
+        &periods,
+        &jitters,
+        &works,
+        &ucb,
+        &ecb,
+        brt,
+        count,
+    )
 }

@@ -1,41 +1,59 @@
--- Facts about what is carried down a column. Assumes nothing.
-use Prim.Native.Nat.{ℕ, _+_, _*_, _<_, max}
+-- Facts about what is carried down the positions. Assumes nothing.
+use Prim.Native.Nat.{ℕ, _+_, _-_, _*_, _≤_, _<_, max}
+use native.Mathlib.Nat.{eq-or-lt-of-le, eq-zero-or-pos}
 use native.Mathlib.Omega.{arith}
-use mathlib.Core.Path.{_≡_, sym, ap, ap₂, _∙_}
-use mathlib.Core.List.{List}
-use lib.ListN.{getD}
+use mathlib.Core.Path.{_≡_, refl, sym, ap, _∙_}
+use mathlib.Core.Logic.{_⊎_, inl, inr}
+use mathlib.Core.List.{List, []}
+use lib.ListN.{length, getD, set, replicate, length-set, length-replicate, getD-replicate}
+use lib.Seq.{getD-set-same, getD-set-other}
 use Rattle.sets.specs.declared.CacheSet.{CacheSet}
 use Rattle.sets.specs.Sets.{Set, ∅, _∪_, _∩_, size}
 use Rattle.sets.specs.Words.{members}
-use Rattle.sets.specs.Stored.{setAt}
+use Rattle.sets.specs.Stored.{heldAt, storedAt, setAt}
 use Rattle.sets.proofs.WordLaws.{members-empty}
+use Rattle.sets.proofs.StoredLaws.{stored-long, stored-same, stored-other}
 use Rattle.table.specs.Tasks.{noSets}
-use Rattle.response.specs.Positions.{between, hp}
-use Rattle.response.proofs.PositionLaws.{none, next}
+use Rattle.response.specs.Positions.{between, run, hp, fold}
+use Rattle.response.proofs.PositionLaws.{next}
 use Rattle.costs.specs.declared.Gathered.{Gathered}
 use Rattle.costs.specs.Gather.{aff, unionOf, largestOf}
 use Rattle.costs.specs.Costs.{counts, reloadsOf}
-use Rattle.costs.specs.Lent.{weightIn, Weighed}
-use Rattle.costs.specs.Carried.{Small, Next, countsOf, InPair}
-use Rattle.costs.proofs.LentLaws.{weighed-as}
+use Rattle.costs.specs.Lent.{weightIn}
+use Rattle.costs.specs.Carried.{Next, countsOf, Carried, columnOf, ColumnAt, Down, Columns, Evictions, Put, InPair}
+use Rattle.costs.proofs.PutLaws.{put-as}
 
--- before row i of column j: what is gathered over the positions from j + 1 on and below i
-pub record Carried (U : ℕ → Set) (above : Set) (j i : ℕ) (g : Gathered) : Type 0 where
-  pub most : g .most .0 ≡ largestOf (λ k. size (U k)) (between (j + 1) i)
-  pub all : members (g .all) ≡ unionOf U (between (j + 1) i)
-  pub shared : g .shared .0 ≡ largestOf (λ k. size (U k ∩ above)) (between (j + 1) i)
-  pub small : Small g
+-- ---- one column
+
+-- no position from j + 1 on is above a row that is not below j
+no-rows : (j i : ℕ) → i ≤ j + 1 → between (j + 1) i ≡ []
+unfolding run
+no-rows j i h = let e : i - (j + 1) ≡ 0 = omega arith in ap (run (j + 1)) e
 
 module _ (U : ℕ → Set) (above : Set) (j : ℕ) where
-  pub carried-none : Carried U above j (j + 1) (record { most = record { 0 = 0 }; all = noSets; shared = record { 0 = 0 } })
-  carried-none = record {
-    most = sym (none max 0 (λ k. size (U k)) (j + 1));
-    all = members-empty ∙ sym (none _∪_ ∅ U (j + 1));
-    shared = sym (none max 0 (λ k. size (U k ∩ above)) (j + 1));
-    small = record { most = omega arith; shared = omega arith };
-  }
+  carried-none : Carried U above j 0 (record { most = record { 0 = 0 }; all = noSets; shared = record { 0 = 0 } })
+  unfolding fold
+  carried-none =
+      let e = no-rows j 0 (omega arith) in
+      record {
+        most = sym (ap (largestOf (λ k. size (U k))) e);
+        all = members-empty ∙ sym (ap (unionOf U) e);
+        shared = sym (ap (largestOf (λ k. size (U k ∩ above))) e);
+        small = record { most = omega arith; shared = omega arith };
+      }
 
-  pub carried-next : (i : ℕ) (g r : Gathered) (ucb : Set) → j < i → ucb ≡ U i → Carried U above j i g → Next g ucb above r → Carried U above j (i + 1) r
+  -- a row that is not below j adds nothing
+  carried-still : (i : ℕ) (g : Gathered) → i ≤ j → Carried U above j i g → Carried U above j (i + 1) g
+  carried-still i g h c =
+      let e = no-rows j i (omega arith) ∙ sym (no-rows j (i + 1) (omega arith)) in
+      record {
+        most = c .most ∙ ap (largestOf (λ k. size (U k))) e;
+        all = c .all ∙ ap (unionOf U) e;
+        shared = c .shared ∙ ap (largestOf (λ k. size (U k ∩ above))) e;
+        small = c .small;
+      }
+
+  carried-next : (i : ℕ) (g r : Gathered) (ucb : Set) → j < i → ucb ≡ U i → Carried U above j i g → Next g ucb above r → Carried U above j (i + 1) r
   carried-next i g r ucb h e c n = record {
     most = n .most ∙ next max 0 (λ k. size (U k)) (j + 1) i _ _ (omega arith) (c .most) (ap size e);
     all = n .all ∙ next _∪_ ∅ U (j + 1) i _ _ (omega arith) (c .all) e;
@@ -52,12 +70,115 @@ module _ (U : ℕ → Set) (above : Set) (j : ℕ) where
       let s = c .shared ∙ ap (λ (A : Set). largestOf (λ k. size (U k ∩ A)) (aff i j)) f in
       cc
 
--- the weights of a row
-pub row-weighed : (works : List ℕ) (brt : ℕ) (ucb ecb : List ℕ) (i j : ℕ) (evicting : CacheSet) (above : Set) (g : Gathered) {x y : List ℕ}
-    → Carried (setAt ucb) above j (i + 1) g → members evicting ≡ setAt ecb j → above ≡ unionOf (setAt ecb) (hp (j + 1))
-    → Weighed (InPair i j 5) (λ m _ _. getD works j 0 + brt * getD (countsOf (members evicting) g) m 0) x y
-    → Weighed (InPair i j 5) (weightIn works brt ucb ecb) x y
+-- ---- the lists
+
+column-same : (most all shared : List ℕ) (j : ℕ) (r : Gathered) → j < length most → 4 * j + 4 ≤ length all → j < length shared
+    → columnOf (set most j (r .most .0)) (storedAt all j (r .all)) (set shared j (r .shared .0)) j ≡ r
+column-same most all shared j r a b c = rw (getD-set-same most j (r .most .0) 0 a, stored-same all j (r .all) b, getD-set-same shared j (r .shared .0) 0 c)
+
+column-other : (most all shared : List ℕ) (j k : ℕ) (r : Gathered) → (k ≡ j → ⊥)
+    → columnOf (set most j (r .most .0)) (storedAt all j (r .all)) (set shared j (r .shared .0)) k ≡ columnOf most all shared k
+column-other most all shared j k r n =
+    rw (getD-set-other most j k (r .most .0) 0 n, stored-other all j (r .all) k n, getD-set-other shared j k (r .shared .0) 0 n)
+
+-- before the first row
+pub columns-none : (ucb ecb : List ℕ) → Columns ucb ecb 0 (replicate 32 0) (replicate 128 0) (replicate 32 0)
+unfolding heldAt
+columns-none ucb ecb = record {
+  most-long = length-replicate {A = ℕ} 32 0;
+  all-long = length-replicate {A = ℕ} 128 0;
+  shared-long = length-replicate {A = ℕ} 32 0;
+  past = λ k h. absurd (omega arith);
+  ahead = λ k h l.
+      rw (
+        getD-replicate {A = ℕ} 32 k 0 0 l,
+        getD-replicate {A = ℕ} 128 (4 * k) 0 0 (omega arith),
+        getD-replicate {A = ℕ} 128 (4 * k + 1) 0 0 (omega arith),
+        getD-replicate {A = ℕ} 128 (4 * k + 2) 0 0 (omega arith),
+        getD-replicate {A = ℕ} 128 (4 * k + 3) 0 0 (omega arith),
+      )
+      (carried-none (setAt ucb) (unionOf (setAt ecb) (hp (k + 1))) k);
+}
+
+-- what is gathered for j, one row further
+pub column-next : (ucb ecb most all shared : List ℕ) (i j : ℕ) (g r : Gathered) (marks above : Set) → j < i → ColumnAt ucb ecb j i most all shared
+    → g ≡ columnOf most all shared j → marks ≡ setAt ucb i → above ≡ unionOf (setAt ecb) (hp (j + 1)) → Next g marks above r
+    → Carried (setAt ucb) (unionOf (setAt ecb) (hp (j + 1))) j (i + 1) r
+column-next ucb ecb most all shared i j g r marks above h c e f q n = carried-next (setAt ucb) _ j i g r marks h f (rw e c) (rw q at n)
+
+-- and put in
+pub down-next : (ucb ecb most all shared : List ℕ) (i j : ℕ) (r : Gathered) → j < 32 → Down ucb ecb i j most all shared
+    → Carried (setAt ucb) (unionOf (setAt ecb) (hp (j + 1))) j (i + 1) r
+    → Down ucb ecb i (j + 1) (set most j (r .most .0)) (storedAt all j (r .all)) (set shared j (r .shared .0))
+down-next ucb ecb most all shared i j r l d c = record {
+  most-long = simp length-set (d .most-long);
+  all-long = stored-long all j _ ∙ d .all-long;
+  shared-long = simp length-set (d .shared-long);
+  past = λ k p. earlier k (eq-or-lt-of-le (omega arith));
+  ahead = λ k p s. rw (column-other most all shared j k r (λ z. omega arith)) (d .ahead k (omega arith) s);
+}
+  where
+    here : ColumnAt ucb ecb j (i + 1) (set most j (r .most .0)) (storedAt all j (r .all)) (set shared j (r .shared .0))
+    here = rw (column-same most all shared j r (omega (arith, d .most-long)) (omega (arith, d .all-long)) (omega (arith, d .shared-long))) c
+
+    earlier : (k : ℕ) → (k ≡ j) ⊎ (k < j) → ColumnAt ucb ecb k (i + 1) (set most j (r .most .0)) (storedAt all j (r .all)) (set shared j (r .shared .0))
+    earlier k (inl z) = rw z here
+    earlier k (inr z) = rw (column-other most all shared j k r (λ y. omega arith)) (d .past k z)
+
+-- all columns above row i are past it, and those below have nothing of it
+pub columns-next : (ucb ecb most all shared : List ℕ) (i : ℕ) → Down ucb ecb i i most all shared → Columns ucb ecb (i + 1) most all shared
+columns-next ucb ecb most all shared i d = record {
+  most-long = d .most-long;
+  all-long = d .all-long;
+  shared-long = d .shared-long;
+  past = λ k h. absurd (omega arith);
+  ahead = λ k h l. go k l (eq-zero-or-pos (i - k));
+}
+  where
+    go : (k : ℕ) → k < 32 → (i - k ≡ 0) ⊎ (0 < i - k) → ColumnAt ucb ecb k (i + 1) most all shared
+    go k l (inl p) = carried-still (setAt ucb) (unionOf (setAt ecb) (hp (k + 1))) k i _ (omega arith) (d .ahead k (omega arith) l)
+    go k l (inr p) = d .past k (omega arith)
+
+-- ---- the ECBs
+
+pub evictions-none : (ecb above evicting : List ℕ) → length above ≡ 128 → length evicting ≡ 32 → Evictions ecb 0 above evicting
+evictions-none ecb above evicting a e =
+    record { above-long = a; evicting-long = e; unions = λ k h. absurd (omega arith); sizes = λ k h. absurd (omega arith) }
+
+pub evictions-next : (ecb above evicting : List ℕ) (j : ℕ) (all : CacheSet) (n : ℕ) → j < 32 → Evictions ecb j above evicting
+    → members all ≡ unionOf (setAt ecb) (hp (j + 1)) → n ≡ size (setAt ecb j) → Evictions ecb (j + 1) (storedAt above j all) (set evicting j n)
+evictions-next ecb above evicting j all n h p a e = record {
+  above-long = stored-long above j all ∙ p .above-long;
+  evicting-long = simp length-set (p .evicting-long);
+  unions = λ k l. union k (eq-or-lt-of-le (omega arith));
+  sizes = λ k l. sized k (eq-or-lt-of-le (omega arith));
+}
+  where
+    union : (k : ℕ) → (k ≡ j) ⊎ (k < j) → setAt (storedAt above j all) k ≡ unionOf (setAt ecb) (hp (k + 1))
+    union k (inl z) = rw z (ap members (stored-same above j all (omega (arith, p .above-long))) ∙ a)
+    union k (inr z) = ap members (stored-other above j all k (λ y. omega arith)) ∙ p .unions k z
+
+    sized : (k : ℕ) → (k ≡ j) ⊎ (k < j) → getD (set evicting j n) k 0 ≡ size (setAt ecb k)
+    sized k (inl z) = rw z (getD-set-same evicting j n 0 (omega (arith, p .evicting-long)) ∙ e)
+    sized k (inr z) = getD-set-other evicting j k n 0 (λ y. omega arith) ∙ p .sizes k z
+
+-- those of fewer tasks
+pub evictions-fewer : (ecb above evicting : List ℕ) (n k : ℕ) → k ≤ n → Evictions ecb n above evicting → Evictions ecb k above evicting
+evictions-fewer ecb above evicting n k h p = record {
+  above-long = p .above-long;
+  evicting-long = p .evicting-long;
+  unions = λ j l. p .unions j (omega arith);
+  sizes = λ j l. p .sizes j (omega arith);
+}
+
+-- ---- the weights
+
+-- those of one task
+pub pair-weighed : (works : List ℕ) (brt : ℕ) (ucb ecb : List ℕ) (i j : ℕ) (evicting : Set) (g : Gathered) {x y : List ℕ}
+    → Carried (setAt ucb) (unionOf (setAt ecb) (hp (j + 1))) j (i + 1) g → evicting ≡ setAt ecb j
+    → Put (InPair j 5) (λ m _. getD works j 0 + brt * getD (countsOf evicting g) m 0) x y
+    → Put (InPair j 5) (λ m b. weightIn works brt ucb ecb m i b) x y
 unfolding reloadsOf
-row-weighed works brt ucb ecb i j evicting above g c e f p =
-    weighed-as p (λ m a b q. ap (λ (ns : List ℕ). getD works j 0 + brt * getD ns m 0) (counted (setAt ucb) above j (setAt ecb) (members evicting) i g c e f)
-    ∙ ap₂ (λ (a b : ℕ). weightIn works brt ucb ecb m a b) (sym (q .1)) (sym (q .2)))
+pair-weighed works brt ucb ecb i j evicting g c e p =
+    put-as p (λ m b q. ap (λ (ns : List ℕ). getD works j 0 + brt * getD ns m 0) (counted (setAt ucb) _ j (setAt ecb) evicting i g c e refl)
+    ∙ ap (λ (b : ℕ). weightIn works brt ucb ecb m i b) (sym (q .1)))

@@ -4,7 +4,7 @@ use native.Mathlib.Nat.{le-antisymm, mul-le-mul}
 use native.Mathlib.Omega.{arith}
 use mathlib.Core.Path.{_≡_}
 use Rattle.sets.specs.Sets.{Set, ∅, _∪_, _⊆_}
-use Rattle.sets.proofs.SetLaws.{union-left, union-right, union-least, size-mono, size-inter-mono}
+use Rattle.sets.proofs.SetLaws.{union-left, union-right, union-least, size-mono, size-inter-left, size-inter-right, size-inter-mono}
 use Rattle.response.specs.Positions.{hp}
 use Rattle.response.specs.Demand.{NoMore}
 use Rattle.response.specs.Flat.{InRange}
@@ -66,6 +66,18 @@ reloads-same U E U′ E′ m i j h u e =
     le-antisymm
     (reloads-by (λ k. k) (λ k. omega arith) U E U′ E′ i j h (λ k l. rw (u k l) (λ s p. p)) (λ k l. rw (e k l) (λ s p. p)) m)
     (reloads-by (λ k. k) (λ k. omega arith) U′ E′ U E i j h (λ k l. rw (u k l) (λ s p. p)) (λ k l. rw (e k l) (λ s p. p)) m)
+
+-- ---- the two unions never count more than what they are unions for
+
+module _ (U E : ℕ → Set) (i j : ℕ) where
+  pub ucb-union-least : reloadsOf U E 3 i j ≤ reloadsOf U E 1 i j
+  unfolding reloadsOf
+  ucb-union-least = size-inter-right _ _
+
+  pub ecb-union-least : reloadsOf U E 4 i j ≤ reloadsOf U E 2 i j
+  unfolding reloadsOf
+  ecb-union-least =
+      gathered max-grows (λ k. k) (λ k. omega arith) 0 0 (omega arith) _ _ (j + 1) (j + 1) (omega arith) (i + 1) (i + 1) (λ k h l. (l, size-inter-left _ _))
 
 -- ---- the terms of accepted tables
 

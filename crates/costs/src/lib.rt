@@ -11,8 +11,8 @@ ghost use Rattle.sets.specs.Words.{members};
 ghost use Rattle.sets.specs.Stored.{setAt};
 ghost use Rattle.response.specs.Positions.{between};
 ghost use Rattle.costs.specs.Gather.{unionOf, largestOf};
-ghost use Rattle.costs.specs.Lent.{Lent, reloadsIn, weightIn, front, place, Weighed, Pairs};
-ghost use Rattle.costs.specs.Carried.{Small, Next, countsOf, InPair, InColumn};
+ghost use Rattle.costs.specs.Lent.{Lent, reloadsIn, weightIn, front};
+ghost use Rattle.costs.specs.Carried.{Small, Next, countsOf, place, Put, InPair, Evictions, Columns, RowWeighed};
 
 // The larger of two reload counts.
 fn larger(a: Reloads, b: Reloads) -> Reloads
@@ -100,105 +100,104 @@ pub fn weights(
     all
 }
 
-// What is gathered over the positions below j and down to a row: the largest UCB, the union of the UCBs, and the most that one UCB shares with
-// the ECBs of j and all above it.
+// What is gathered for the task at j over the positions below it, down to a row: the largest UCB, the union of the UCBs, and the most that one
+// UCB shares with the ECBs of j and all above it.
 struct Gathered {
     most: Reloads,
     all: CacheSet,
     shared: Reloads,
 }
 
-// One row more.
-fn gather(gathered: Gathered, ucb: CacheSet, above: CacheSet) -> Gathered
-    requires { ⌜ Small gathered ⌝ }
+// One row more, with its UCB and the size of that.
+fn gather(gathered: Gathered, ucb: CacheSet, useful: Reloads, above: CacheSet) -> Gathered
+    requires { ⌜ Small gathered × (useful .0 ≡ size (members ucb)) ⌝ }
     ensures { λ r. ⌜ Next gathered (members ucb) (members above) r ⌝ }
 {
     let all = gathered.all.union(ucb);
-    let most = larger(gathered.most, ucb.size());
+    let most = larger(gathered.most, useful);
     let shared = larger(gathered.shared, ucb.intersection(above).size());
     Gathered { most, all, shared }
 }
 
-// Puts in the weight of j above i under a method: `work` ticks and `n` reloads.
-fn put(
-    weights: &mut [u64; 5120],
-    method: usize,
-    i: usize,
-    j: usize,
-    work: Ticks,
-    n: Reloads,
-    brt: Ticks,
-)
-    requires { ⌜ (method ≤ 4) × (i < 32) × (j < 32) × (work .0 ≤ 250000000) × (n .0 ≤ 2048) × (brt .0 ≤ 100000) × (length (now weights) ≡ 5120) ⌝ }
-    ensures { λ _. ⌜ (now (weights .exit) ≡ set (now (weights .entry)) (place method i j) (work .0 + brt .0 * n .0)) × (length (now (weights .exit)) ≡ 5120) ⌝ }
+// Puts in the weight of j under a method: `work` ticks and `n` reloads.
+fn put(weights: &mut [u64; 160], method: usize, j: usize, work: Ticks, n: Reloads, brt: Ticks)
+    requires { ⌜ (method ≤ 4) × (j < 32) × (work .0 ≤ 250000000) × (n .0 ≤ 2048) × (brt .0 ≤ 100000) × (length (now weights) ≡ 160) ⌝ }
+    ensures { λ _. ⌜ (now (weights .exit) ≡ set (now (weights .entry)) (place method j) (work .0 + brt .0 * n .0)) × (length (now (weights .exit)) ≡ 160) ⌝ }
 {
-    let at = (method * 32 + i) * 32 + j;
+    let at = method * 32 + j;
     weights[at] = weight(work, n, brt).0;
 }
 
-// Puts in the weights of j above i, from its work, its ECB and what is gathered.
+// Puts in the weights of j, from its work, its ECB with the size of that, and what is gathered for it.
 fn put_pair(
-    weights: &mut [u64; 5120],
-    i: usize,
+    weights: &mut [u64; 160],
     j: usize,
     work: Ticks,
     ecb: CacheSet,
+    evicting: Reloads,
     gathered: Gathered,
     brt: Ticks,
 )
-    requires { ⌜ (i < 32) × (j < 32) × (work .0 ≤ 250000000) × (brt .0 ≤ 100000) × Small gathered × (length (now weights) ≡ 5120) ⌝ }
-    ensures { λ _. ⌜ Weighed (InPair i j 5) (λ m _ _. work .0 + brt .0 * getD (countsOf (members ecb) gathered) m 0) (now (weights .entry)) (now (weights .exit)) ⌝ }
+    requires { ⌜ (j < 32) × (work .0 ≤ 250000000) × (brt .0 ≤ 100000) × (evicting .0 ≡ size (members ecb)) × Small gathered × (length (now weights) ≡ 160) ⌝ }
+    ensures { λ _. ⌜ Put (InPair j 5) (λ m _. work .0 + brt .0 * getD (countsOf (members ecb) gathered) m 0) (now (weights .entry)) (now (weights .exit)) ⌝ }
 {
-    let evicting = ecb.size();
     let hit = gathered.all.intersection(ecb).size();
-    put(weights, 0, i, j, work, Reloads(0), brt);
-    put(weights, 1, i, j, work, evicting, brt);
-    put(weights, 2, i, j, work, gathered.most, brt);
-    put(weights, 3, i, j, work, hit, brt);
-    put(weights, 4, i, j, work, gathered.shared, brt);
+    put(weights, 0, j, work, Reloads(0), brt);
+    put(weights, 1, j, work, evicting, brt);
+    put(weights, 2, j, work, gathered.most, brt);
+    put(weights, 3, j, work, hit, brt);
+    put(weights, 4, j, work, gathered.shared, brt);
 }
 
-// The weights of j above each of the positions below it.
-fn weigh_column(
-    works: &[u64],
-    ucb: &[u64],
-    ecb: &[u64],
-    brt: Ticks,
-    count: usize,
-    j: usize,
-    weights: &mut [u64; 5120],
-)
-    requires { ⌜ Lent (now works) (now ucb) (now ecb) (brt .0) count × (j < count) × (length (now weights) ≡ 5120) ⌝ }
-    ensures { λ _. ⌜ Weighed (InColumn j count) (weightIn (now (works .entry)) (brt .0) (now (ucb .entry)) (now (ecb .entry))) (now (weights .entry)) (now (weights .exit)) ⌝ }
+// For each of the first `count` tasks the union of the ECBs down to its own, and the size of its own.
+pub fn evictions(ecb: &[u64], count: usize, above: &mut [u64; 128], evicting: &mut [u64; 32])
+    requires { ⌜ (count ≤ 32) × (4 * count ≤ length (now ecb)) × (length (now above) ≡ 128) × (length (now evicting) ≡ 32) ⌝ }
+    ensures { λ _. ⌜ Evictions (now (ecb .entry)) count (now (above .exit)) (now (evicting .exit)) ⌝ }
 {
-    let work = Ticks(works[j]);
-    let evicting = CacheSet::at(ecb, j);
-    let above = union_over(ecb, 0, j + 1);
-    let mut gathered = Gathered {
-        most: Reloads(0),
-        all: CacheSet::EMPTY,
-        shared: Reloads(0),
-    };
-    for i in j + 1..count {
-        let next = gather(gathered, CacheSet::at(ucb, i), above);
-        put_pair(weights, i, j, work, evicting, next, brt);
-        gathered = next;
+    for j in 0..count {
+        union_over(ecb, 0, j + 1).store(above, j);
+        evicting[j] = CacheSet::at(ecb, j).size().0;
     }
 }
 
-// The weights of all pairs of `count` tasks under the methods 0 to 4. What is gathered for j is carried down the rows.
-pub fn weigh(
+// The weights of the tasks above i under the methods 0 to 4. What is gathered for each of them is carried one row further.
+pub fn weigh_row(
     works: &[u64],
     ucb: &[u64],
     ecb: &[u64],
+    above: &[u64],
+    evicting: &[u64],
     brt: Ticks,
-    count: usize,
-    weights: &mut [u64; 5120],
+    i: usize,
+    most: &mut [u64; 32],
+    all: &mut [u64; 128],
+    shared: &mut [u64; 32],
+    weights: &mut [u64; 160],
 )
-    requires { ⌜ Lent (now works) (now ucb) (now ecb) (brt .0) count × (length (now weights) ≡ 5120) ⌝ }
-    ensures { λ _. ⌜ Weighed (Pairs count) (weightIn (now (works .entry)) (brt .0) (now (ucb .entry)) (now (ecb .entry))) (now (weights .entry)) (now (weights .exit)) ⌝ }
+    requires { ⌜ Lent (now works) (now ucb) (now ecb) (brt .0) (i + 1) × Evictions (now ecb) i (now above) (now evicting) × Columns (now ucb) (now ecb) i (now most) (now all) (now shared) × (length (now weights) ≡ 160) ⌝ }
+    ensures { λ _. ⌜ RowWeighed (now (works .entry)) (now (ucb .entry)) (now (ecb .entry)) (brt .0) i (now (most .exit)) (now (all .exit)) (now (shared .exit)) (now (weights .exit)) ⌝ }
 {
-    for j in 0..count {
-        weigh_column(works, ucb, ecb, brt, count, j, weights);
+    let marks = CacheSet::at(ucb, i);
+    let useful = marks.size();
+    for j in 0..i {
+        let gathered = Gathered {
+            most: Reloads(most[j]),
+            all: CacheSet::at(all, j),
+            shared: Reloads(shared[j]),
+        };
+        let next = gather(gathered, marks, useful, CacheSet::at(above, j));
+        most[j] = next.most.0;
+        next.all.store(all, j);
+        shared[j] = next.shared.0;
+        let evictor = CacheSet::at(ecb, j);
+        put_pair(
+            weights,
+            j,
+            Ticks(works[j]),
+            evictor,
+            Reloads(evicting[j]),
+            next,
+            brt,
+        );
     }
 }

@@ -69,7 +69,7 @@ module _ (table : Table) (rows : List Row) (e : take (table .count) rows ≡ map
   row-at i h =
       sym (getD-take (table .count) rows i noRow h) ∙ ap (λ (xs : List Row). getD xs i noRow) e ∙ map-at (rowOf table) (table .count) i noRow h
 
-  rows-hold : (m i : ℕ) → m < 6 → i < table .count → answersIn rows m i ≡ responseOf table m i
+  pub rows-hold : (m i : ℕ) → m < 6 → i < table .count → answersIn rows m i ≡ responseOf table m i
   rows-hold m i h l = ap (λ (row : Row). answerIn row m) (row-at i l) ∙ cell-at table i m h
 
   pub reportable : AcceptedTable table → Reportable table rows

@@ -1,17 +1,16 @@
 -- Facts about the demand: what a term asks for, the demand of one term more, that it grows with all that it is made of, and where the iteration
 -- may start. Assumes nothing.
-use Prim.Native.Nat.{ℕ, suc, _+_, _-_, _*_, _≤_, _<_, zero-le}
-use native.Mathlib.Nat.{div-lt-iff-lt-mul, mul-le-mul, mul-le-mul-left}
+use Prim.Native.Nat.{ℕ, zero, suc, _+_, _-_, _*_, _≤_, _<_, zero-le}
+use native.Mathlib.Nat.{div-lt-iff-lt-mul, le-antisymm, lt-of-not-le, mul-le-mul, mul-le-mul-left}
 use native.Mathlib.Omega.{arith}
 use mathlib.Core.Path.{_≡_, refl, sym, ap, fun-ext}
 use mathlib.Core.Logic.{_↔_}
-use Rattle.units.specs.declared.Ticks.{Ticks}
-use Rattle.response.specs.declared.Response.the-variants.{Within, Unschedulable}
+use Rattle.response.specs.declared.Response.the-variants.{Unschedulable}
 use Rattle.response.specs.Positions.{hp}
-use Rattle.response.specs.Demand.{Term, ceil, workOf, demandOf, NoMore}
+use Rattle.response.specs.Demand.{Term, ceil, activationsOf, workOf, demandOf, NoMore}
 use Rattle.response.specs.Flat.{InRange}
-use Rattle.response.specs.Least.{Reached, leastOf, LeastWithin, NoLater}
-use Rattle.response.proofs.LeastLaws.{Monotone, leastOf-least, least-covers, leastOf-no-later}
+use Rattle.response.specs.Least.{leastOf, NoLater}
+use Rattle.response.proofs.LeastLaws.{Monotone, leastOf-no-later}
 use Rattle.response.proofs.SoonerLaws.{none-latest}
 use Rattle.response.proofs.PositionLaws.{none, next, fold-same, fold-keeps, Rising, place-lt, Grows, gathered}
 
@@ -26,25 +25,41 @@ ceil-le x q t h =
 pub ceil-mul : (x t : ℕ) → 1 ≤ t → x ≤ ceil x t * t
 ceil-mul x t h = ceil-le x (ceil x t) t h .0 (omega arith)
 
+-- how to tell it without a division
+pub ceil-is : (x q t : ℕ) → 1 ≤ t → x ≤ q * t → q * t < x + t → q ≡ ceil x t
+ceil-is x zero t h l m = le-antisymm (omega arith) (ceil-le x zero t h .1 l)
+ceil-is x (suc q) t h l m =
+    le-antisymm (lt-of-not-le (λ p. let k = ceil-le x q t h .0 p in omega arith)) (ceil-le x (suc q) t h .1 l)
+
+pub ceil-most : (x q t : ℕ) → 1 ≤ t → x ≤ q → ceil x t ≤ q
+ceil-most x q t h l = ceil-le x q t h .1 (omega (arith, mul-le-mul-left q h))
+
 -- more ticks at a shorter period are more activations
 ceil-mono : (x y s t : ℕ) → x ≤ y → 1 ≤ t → t ≤ s → ceil x s ≤ ceil y t
 ceil-mono x y s t h l p =
     ceil-le x (ceil y t) s (omega arith) .1 (omega (arith, ceil-mul y t l, mul-le-mul-left (ceil y t) p))
 
-work-mono : (r s : ℕ) → r ≤ s → (a b : Term) → NoMore a b → workOf r a ≤ workOf s b
-work-mono r s h a b p =
-    mul-le-mul (ceil-mono (r + a .jitter) (s + b .jitter) (a .period) (b .period) (omega arith) (p .live) (p .period)) (p .weight)
+pub activations-mono : (r s : ℕ) → r ≤ s → (a b : Term) → NoMore a b → activationsOf r a ≤ activationsOf s b
+activations-mono r s h a b p = ceil-mono (r + a .jitter) (s + b .jitter) (a .period) (b .period) (omega arith) (p .live) (p .period)
 
-no-more-self : (t : Term) → InRange t → NoMore t t
+work-mono : (r s : ℕ) → r ≤ s → (a b : Term) → NoMore a b → workOf r a ≤ workOf s b
+work-mono r s h a b p = mul-le-mul (activations-mono r s h a b p) (p .weight)
+
+pub no-more-self : (t : Term) → InRange t → NoMore t t
 no-more-self t p = record { live = p .period; period = omega arith; jitter = omega arith; weight = omega arith }
 
 pub work-later : (r s : ℕ) (t : Term) → InRange t → r ≤ s → workOf r t ≤ workOf s t
 work-later r s t p h = work-mono r s h t t (no-more-self t p)
 
--- what one term can ask for
+-- how often one term can be activated, and what it can ask for
+pub activations-bound : (r : ℕ) (t : Term) → InRange t → r ≤ 250000000 → activationsOf r t ≤ 500000000
+activations-bound r t p h = ceil-most (r + t .jitter) 500000000 (t .period) (p .period) (omega arith)
+
+pub asks-bound : (c w : ℕ) → c ≤ 500000000 → w ≤ 500000000 → c * w ≤ 250000000000000000
+asks-bound c w h k = mul-le-mul {n₂ = 500000000} {m₂ = 500000000} h k
+
 pub work-bound : (r : ℕ) (t : Term) → InRange t → r ≤ 250000000 → workOf r t ≤ 250000000000000000
-work-bound r t p h =
-    mul-le-mul {n₂ = 500000000} {m₂ = 500000000} (ceil-le (r + t .jitter) 500000000 (t .period) (p .period) .1 (omega arith)) (p .weight)
+work-bound r t p h = asks-bound (activationsOf r t) (t .weight) (activations-bound r t p h) (p .weight)
 
 -- ---- the demand
 
@@ -56,6 +71,11 @@ module _ (own : ℕ) (t : ℕ → Term) (r : ℕ) where
   pub demand-next : (n : ℕ) → demandOf own t (n + 1) r ≡ demandOf own t n r + workOf r (t n)
   unfolding demandOf
   demand-next n = sym (next _+_ own (λ j. workOf r (t j)) 0 n _ _ zero-le refl refl)
+
+  -- it has the task's own work
+  pub demand-own : (n : ℕ) → own ≤ demandOf own t n r
+  unfolding demandOf
+  demand-own n = fold-keeps _+_ (λ b. own ≤ b) own (λ j. workOf r (t j)) (hp n) (omega arith) (λ b k h. omega arith)
 
 -- only the terms of the first n tasks count
 pub demand-same : (own : ℕ) (e f : ℕ → Term) (n : ℕ) → ((j : ℕ) → j < n → e j ≡ f j) → demandOf own e n ≡ demandOf own f n
@@ -77,6 +97,9 @@ pub demand-mono : (t : ℕ → Term) (n own : ℕ) → ((j : ℕ) → j < n → 
 demand-mono t n own p a b h =
     demand-by (λ k. k) (λ k. omega arith) t t n own own a b (omega arith) h (λ j l. no-more-self (t j) (p j l))
 
+pub demand-more : (e f : ℕ → Term) (n own : ℕ) → ((j : ℕ) → j < n → NoMore (e j) (f j)) → (s : ℕ) → demandOf own e n s ≤ demandOf own f n s
+demand-more e f n own p s = demand-by (λ k. k) (λ k. omega arith) e f n own own s s (omega arith) (omega arith) p
+
 -- a task with less work of its own and above it, and no smaller a limit, is answered no later
 pub answer-by : (place : ℕ → ℕ) → Rising place → (e f : ℕ → Term) (n c d l m : ℕ) → c ≤ d → m ≤ l
     → ((j : ℕ) → j < n → InRange (e j)) → ((j : ℕ) → j < n → NoMore (e j) (f (place j)))
@@ -84,29 +107,8 @@ pub answer-by : (place : ℕ → ℕ) → Rising place → (e f : ℕ → Term) 
 answer-by place rises e f n c d l m h k p q =
     leastOf-no-later _ (demand-mono e n c p) _ (λ x. demand-by place rises e f n c d x x h (omega arith) q) l m k
 
--- ---- where the iteration may start
-
--- at the task's own work
-pub reached-own : (own : ℕ) (t : ℕ → Term) (n : ℕ) → Reached (demandOf own t n) own
-unfolding demandOf
-reached-own own t n = record { below = λ s e. omega (arith, least s); rises = least own }
-  where
-    least : (s : ℕ) → own ≤ demandOf own t n s
-    least s = fold-keeps _+_ (λ b. own ≤ b) own (λ j. workOf s (t j)) (hp n) (omega arith) (λ b k h. omega arith)
-
--- at the answer for terms that ask for no more
-module _ (own limit n : ℕ) (e f : ℕ → Term) (ranged : (j : ℕ) → j < n → InRange (e j)) (under : (j : ℕ) → j < n → NoMore (e j) (f j)) where
-  more : (s : ℕ) → demandOf own e n s ≤ demandOf own f n s
-  more s = demand-by (λ k. k) (λ k. omega arith) e f n own own s s (omega arith) (omega arith) under
-
-  pub start-from : (R : Ticks) → Within R ≡ leastOf (demandOf own e n) limit → Reached (demandOf own f n) (R .0)
-  unfolding LeastWithin
-  start-from R q =
-      let p = rw (← q) at (leastOf-least (demandOf own e n) limit) in
-      record {
-        below = λ s w. least-covers _ (demand-mono e n own ranged) limit R p s (omega (arith, more s));
-        rises = omega (arith, more (R .0), p .1);
-      }
-
-  pub none-from : Unschedulable ≡ leastOf (demandOf own e n) limit → Unschedulable ≡ leastOf (demandOf own f n) limit
-  none-from q = none-latest _ _ (leastOf-no-later _ (demand-mono e n own ranged) _ more limit limit (omega arith)) q
+-- where there is no answer there is none for terms that ask for more
+pub none-from : (own limit n : ℕ) (e f : ℕ → Term) → ((j : ℕ) → j < n → InRange (e j)) → ((j : ℕ) → j < n → NoMore (e j) (f j))
+    → Unschedulable ≡ leastOf (demandOf own e n) limit → Unschedulable ≡ leastOf (demandOf own f n) limit
+none-from own limit n e f ranged under q =
+    none-latest _ _ (leastOf-no-later _ (demand-mono e n own ranged) _ (demand-more e f n own under) limit limit (omega arith)) q

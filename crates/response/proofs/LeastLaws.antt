@@ -1,7 +1,8 @@
 -- Facts about least solutions, proved once for every demand f.
 -- Assumes nothing.
 use Prim.Native.Nat.{ℕ, zero, suc, _+_, _≤_, _<_}
-use native.Mathlib.Nat.{le-antisymm, eq-or-lt-of-le}
+use native.Mathlib.Nat.{le-antisymm, lt-of-not-le, eq-or-lt-of-le}
+use native.Mathlib.Decide.{decLe}
 use native.Mathlib.Omega.{arith}
 use mathlib.Core.Path.{_≡_, refl, ap, sym}
 use mathlib.Core.Bool.{Bool, true, false}
@@ -83,6 +84,15 @@ module _ (f : ℕ → ℕ) (mono : Monotone f) where
 
   pub solution-under : (r : ℕ) → f r ≤ r → (s : ℕ) × (s ≤ r) × (s ≡ f s)
   solution-under r = settle r r (omega arith)
+
+  -- a time that no solution is below needs nothing else to go on from
+  pub reached-below : (r : ℕ) → Below f r → Reached f r
+  reached-below r p = record { below = p; rises = elim (decLe r (f r)) [ yes l ↦ l | no l ↦ at (lt-of-not-le l) ] }
+    where
+      at : f r < r → r ≤ f r
+      at l =
+          let w = solution-under r (omega arith) in
+          let e : w .0 ≡ r = le-antisymm (w .1) (p (w .0) (w .2)) in omega (arith, ap f e)
 
   -- the least solution is the least number that covers its demand
   pub least-covers : (limit : ℕ) (R : Ticks) → LeastWithin f limit (Within R) → (r : ℕ) → f r ≤ r → R .0 ≤ r

@@ -3,4 +3,5 @@ pub mod PositionLaws
 pub mod LeastLaws
 pub mod SoonerLaws
 pub mod DemandLaws
+pub mod CountLaws
 pub mod HastenLaws

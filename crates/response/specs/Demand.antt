@@ -15,9 +15,12 @@ termOf p j w = record { period = p; jitter = j; weight = w }
 abbrev pub ceil : ℕ → ℕ → ℕ
 ceil x t = (x + (t - 1)) / t
 
--- the work that one task of higher priority asks for in r ticks: its activations, and what each asks for
+-- how often one task of higher priority is activated in r ticks, and the work that it asks for
+abbrev pub activationsOf : ℕ → Term → ℕ
+activationsOf r t = ceil (r + t .jitter) (t .period)
+
 abbrev pub workOf : ℕ → Term → ℕ
-workOf r t = ceil (r + t .jitter) (t .period) * t .weight
+workOf r t = activationsOf r t * t .weight
 
 -- the demand at r: the task's own work, and that of each task above it, where the one at j asks for `terms j`
 unfoldable pub demandOf : ℕ → (ℕ → Term) → ℕ → ℕ → ℕ

@@ -1,10 +1,12 @@
 // The response of a task: the smallest time that equals its demand. specs/Demand.antt says what a demand is, specs/Flat.antt how its
-// terms are handed in, and specs/Least.antt what the smallest solution is.
+// terms are handed in, specs/Counts.antt how often they are known to be activated, and specs/Least.antt what the smallest solution is.
 use units::Ticks;
 ghost use mathlib.Core.Path.{_≡_};
-ghost use Prim.Native.Nat.{_-_, _≤_};
-ghost use Rattle.response.specs.Demand.{termOf, workOf, demandOf};
+ghost use Prim.Native.Nat.{ℕ, _-_, _≤_, _<_};
+ghost use lib.ListN.{length, getD};
+ghost use Rattle.response.specs.Demand.{termOf, ceil, workOf, demandOf};
 ghost use Rattle.response.specs.Flat.{flat, InRange, Handed};
+ghost use Rattle.response.specs.Counts.{oneIf, askedOf, Kept, Counted, Started};
 ghost use Rattle.response.specs.Least.{leastOf, sooner, Reached};
 ghost use Rattle.response.specs.Hasten.{shareOf, sharesOf, PartOf, TurnOf};
 
@@ -32,14 +34,57 @@ fn work(period: u64, jitter: u64, weight: u64, r: u64) -> u64
     (r + jitter + (period - 1)) / period * weight
 }
 
-// The work that is asked for in `r` ticks: the task's own, and that of the first `n` terms.
-fn demand(own: u64, periods: &[u64], jitters: &[u64], weights: &[u64], n: usize, r: u64) -> u64
-    requires { ⌜ Handed own (now periods) (now jitters) (now weights) n r ⌝ }
+// 1 where `b` holds, and else 0.
+fn one_if(b: bool) -> u64
+    ensures { λ r. ⌜ (r ≡ oneIf b) × (r ≤ 1) ⌝ }
+{
+    if b { 1 } else { 0 }
+}
+
+// How often a term is activated up to `due`, the time and the term's jitter. Where that is `before`, or one more, nothing is divided.
+fn activations(period: u64, due: u64, before: u64) -> u64
+    requires { ⌜ (1 ≤ period) × (period ≤ 250000000) × (due ≤ 500000000) × (before ≤ 500000000) ⌝ }
+    ensures { λ r. ⌜ (r ≡ ceil due period) × (r ≤ 500000000) ⌝ }
+{
+    let count = before + one_if(before * period < due);
+    let reach = count * period;
+    if (due <= reach) & (reach < due + period) {
+        return count;
+    }
+    (due + (period - 1)) / period
+}
+
+// The work that is asked for in `r` ticks: the task's own, and that of the first `n` terms, whose activations are left in `counts`.
+fn demand(
+    own: u64,
+    periods: &[u64],
+    jitters: &[u64],
+    weights: &[u64],
+    n: usize,
+    r: u64,
+    counts: &mut [u64; 32],
+) -> u64
+    requires { ⌜ Handed own (now periods) (now jitters) (now weights) n r × Kept n (now counts) ⌝ }
     ensures { λ d. ⌜ d ≡ demandOf own (flat (now (periods .entry)) (now (jitters .entry)) (now (weights .entry))) n r ⌝ }
+    ensures { λ _. ⌜ Counted (flat (now (periods .entry)) (now (jitters .entry)) (now (weights .entry))) n r (now (counts .exit)) ⌝ }
 {
     let mut sum = own;
     for i in 0..n {
-        sum += work(periods[i], jitters[i], weights[i], r);
+        let count = activations(periods[i], r + jitters[i], counts[i]);
+        counts[i] = count;
+        sum += count * weights[i];
+    }
+    sum
+}
+
+// What `counts` asks for.
+fn asked(own: u64, weights: &[u64], n: usize, counts: &[u64; 32]) -> u64
+    requires { ⌜ (own ≤ 500000000) × (n ≤ 32) × (n ≤ length (now weights)) × ((j : ℕ) → j < n → getD (now weights) j 0 ≤ 500000000) × Kept n (now counts) ⌝ }
+    ensures { λ d. ⌜ d ≡ askedOf own (now (weights .entry)) (now (counts .entry)) n ⌝ }
+{
+    let mut sum = own;
+    for i in 0..n {
+        sum += counts[i] * weights[i];
     }
     sum
 }
@@ -189,9 +234,11 @@ fn climb(
     n: usize,
     limit: u64,
     start: u64,
+    counts: &mut [u64; 32],
 ) -> Response
-    requires { ⌜ Handed own (now periods) (now jitters) (now weights) n limit × Reached (demandOf own (flat (now periods) (now jitters) (now weights)) n) start ⌝ }
+    requires { ⌜ Handed own (now periods) (now jitters) (now weights) n limit × Reached (demandOf own (flat (now periods) (now jitters) (now weights)) n) start × Started own (flat (now periods) (now jitters) (now weights)) n (now counts) ⌝ }
     ensures { λ a. ⌜ a ≡ leastOf (demandOf own (flat (now (periods .entry)) (now (jitters .entry)) (now (weights .entry))) n) limit ⌝ }
+    ensures { λ _. ⌜ Started own (flat (now (periods .entry)) (now (jitters .entry)) (now (weights .entry))) n (now (counts .exit)) ⌝ }
 {
     let mut time = start;
     let mut turns: u64 = 0;
@@ -199,7 +246,7 @@ fn climb(
         if turns == 16 {
             return hasten(own, periods, jitters, weights, n, limit, time);
         }
-        let d = demand(own, periods, jitters, weights, n, time);
+        let d = demand(own, periods, jitters, weights, n, time, counts);
         if d == time {
             return Response::Within(Ticks(time));
         }
@@ -210,7 +257,7 @@ fn climb(
 }
 
 // The smallest time up to `limit` that equals its demand, for a task with `own` ticks of work under the first `n` terms: their periods,
-// jitters and what one activation asks for. No solution is below `start`.
+// jitters and what one activation asks for. `counts` has activations to start from, none above those of a solution, and is left with such.
 pub fn least(
     own: Ticks,
     periods: &[u64],
@@ -218,12 +265,14 @@ pub fn least(
     weights: &[u64],
     n: usize,
     limit: Ticks,
-    start: Ticks,
+    counts: &mut [u64; 32],
 ) -> Response
-    requires { ⌜ Handed (own .0) (now periods) (now jitters) (now weights) n (limit .0) × Reached (demandOf (own .0) (flat (now periods) (now jitters) (now weights)) n) (start .0) ⌝ }
+    requires { ⌜ Handed (own .0) (now periods) (now jitters) (now weights) n (limit .0) × Started (own .0) (flat (now periods) (now jitters) (now weights)) n (now counts) ⌝ }
     ensures { λ a. ⌜ a ≡ leastOf (demandOf (own .0) (flat (now (periods .entry)) (now (jitters .entry)) (now (weights .entry))) n) (limit .0) ⌝ }
+    ensures { λ _. ⌜ Started (own .0) (flat (now (periods .entry)) (now (jitters .entry)) (now (weights .entry))) n (now (counts .exit)) ⌝ }
 {
-    climb(own.0, periods, jitters, weights, n, limit.0, start.0)
+    let start = asked(own.0, weights, n, counts);
+    climb(own.0, periods, jitters, weights, n, limit.0, start, counts)
 }
 
 // The sooner of two answers. Where one has no response time it is the other.

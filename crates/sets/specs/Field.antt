@@ -8,6 +8,8 @@ use lib.ListN.{length}
 use lib.Dec.{eqb, leb}
 use Rattle.sets.specs.declared.Digit.{Digit}
 use Rattle.sets.specs.declared.Digit.the-variants as digit
+use Rattle.sets.specs.declared.Word.{Word}
+use Rattle.sets.specs.declared.Word.the-variants as word
 use Rattle.sets.specs.declared.SetField.{SetField}
 use Rattle.sets.specs.declared.SetField.the-variants as field
 use Rattle.sets.specs.Words.{wordsOf}
@@ -39,3 +41,8 @@ readSet sets f = cond (leb sets 256 && eqb (length f) (sets / 4)) (ofNumber (rea
 abbrev pub digitSays : Digit → Option ℕ
 digitSays (digit.Is d) = some d
 digitSays digit.None = none
+
+-- and of the bytes of a word
+abbrev pub wordSays : Word → Option ℕ
+wordSays (word.Is w) = some w
+wordSays word.None = none

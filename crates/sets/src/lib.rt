@@ -2,13 +2,13 @@
 // specs/Words.antt which set the words stand for, and specs/Field.antt what a text field says.
 use units::Reloads;
 ghost use mathlib.Core.Path.{_≡_};
-ghost use Prim.Native.Nat.{_+_, _*_, _<_, _≤_, _^_};
+ghost use Prim.Native.Nat.{_+_, _-_, _*_, _<_, _≤_};
 ghost use lib.Count.{ones};
 ghost use lib.ListN.{length};
 ghost use Rattle.sets.specs.Sets.{_∪_, _∩_, size};
-ghost use Rattle.sets.specs.Words.{number, members};
+ghost use Rattle.sets.specs.Words.{members};
 ghost use Rattle.sets.specs.Stored.{heldAt, storedAt};
-ghost use Rattle.sets.specs.Field.{hexDigit, digitSays, readSet};
+ghost use Rattle.sets.specs.Field.{hexDigit, digitSays, readHex, wordSays, readSet};
 
 // A set of cache sets: cache set s is bit s % 64 of word s / 64.
 pub struct CacheSet {
@@ -90,19 +90,6 @@ impl CacheSet {
         words[at + 3] = self.w3;
     }
 
-    // The number four places to the left, with a digit in the free places.
-    fn shift_in(self, digit: u64) -> CacheSet
-        requires { ⌜ (digit < 16) × (number self < 2 ^ 252) ⌝ }
-        ensures { λ r. ⌜ number r ≡ number self * 16 + digit ⌝ }
-    {
-        CacheSet {
-            w0: self.w0 << 4 | digit,
-            w1: self.w1 << 4 | self.w0 >> 60,
-            w2: self.w2 << 4 | self.w1 >> 60,
-            w3: self.w3 << 4 | self.w2 >> 60,
-        }
-    }
-
     // The set that a field of the table text says: sets / 4 hex digits, most significant first.
     pub fn from_field(field: &[u8], sets: u64) -> SetField
         ensures { λ r. ⌜ r ≡ readSet sets (now (field .entry)) ⌝ }
@@ -113,16 +100,24 @@ impl CacheSet {
         if field.len() as u64 != sets / 4 {
             return SetField::Bad;
         }
-        let mut set = CacheSet::EMPTY;
-        let mut i = 0;
-        while i < field.len() {
-            let Digit::Is(d) = digit_of(field[i]) else {
-                return SetField::Bad;
-            };
-            set = set.shift_in(d);
-            i += 1;
-        }
-        SetField::Set(set)
+        // A word has sixteen digits, counted from the end. Where the digits run out, the words above have none and are 0.
+        let end = field.len();
+        let to_w3 = less(end, 48);
+        let to_w2 = less(end, 32);
+        let to_w1 = less(end, 16);
+        let Word::Is(w3) = word_of(&field[0..to_w3]) else {
+            return SetField::Bad;
+        };
+        let Word::Is(w2) = word_of(&field[to_w3..to_w2]) else {
+            return SetField::Bad;
+        };
+        let Word::Is(w1) = word_of(&field[to_w2..to_w1]) else {
+            return SetField::Bad;
+        };
+        let Word::Is(w0) = word_of(&field[to_w1..end]) else {
+            return SetField::Bad;
+        };
+        SetField::Set(CacheSet { w0, w1, w2, w3 })
     }
 }
 
@@ -147,4 +142,33 @@ fn digit_of(b: u8) -> Digit
         b'a'..=b'f' => Digit::Is((b - b'a' + 10) as u64),
         _ => Digit::None,
     }
+}
+
+// What up to sixteen bytes are as hex digits.
+enum Word {
+    Is(u64),
+    None,
+}
+
+fn word_of(part: &[u8]) -> Word
+    requires { ⌜ length (now part) ≤ 16 ⌝ }
+    ensures { λ r. ⌜ wordSays r ≡ readHex 0 (now (part .entry)) ⌝ }
+{
+    let mut word: u64 = 0;
+    let mut i = 0;
+    while i < part.len() {
+        let Digit::Is(digit) = digit_of(part[i]) else {
+            return Word::None;
+        };
+        word = word << 4 | digit;
+        i += 1;
+    }
+    Word::Is(word)
+}
+
+// What is left of `a` without `b`: 0 where `b` is more.
+fn less(a: usize, b: usize) -> usize
+    ensures { λ r. ⌜ r ≡ a - b ⌝ }
+{
+    if a <= b { 0 } else { a - b }
 }

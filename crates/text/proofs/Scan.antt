@@ -1,9 +1,10 @@
 -- What a scan from the front has left to do at an index: nothing at the end, and else what the byte there says and the rest.
 -- Assumes nothing.
-use Prim.Native.Nat.{ℕ, suc, _+_, _<_, _≤_}
+use Prim.Native.Nat.{ℕ, suc, _+_, _<_, _≤_, zero-le}
 use mathlib.Core.Path.{_≡_, refl, ap}
 use mathlib.Core.Bool.{Bool, true, false, _&&_}
 use mathlib.Core.List.{List, [], _∷_}
+use native.Mathlib.Omega.{arith}
 use lib.Dec.{eqb}
 use borrow.Author.Tests.{eq-eqb, ne-eqb}
 use lib.ListN.{length, getD, drop, drop-of-length-le}
@@ -24,18 +25,26 @@ module _ (p : ℕ → Bool) (s : List ℕ) (i : ℕ) where
   unfolding all
   all-end h = rw (drop-of-length-le s h)
 
-module _ (c : ℕ) (s : List ℕ) (i : ℕ) where
-  pub up-to-step : i < length s → (getD s i 0 ≡ c → ⊥) → length (upTo c (drop i s)) ≡ suc (length (upTo c (drop (i + 1) s)))
-  unfolding upTo
-  up-to-step h e = rw (left-cons s i h, ne-eqb _ _ e)
+-- the first i bytes hold no c
+pub record Passed (c : ℕ) (s : List ℕ) (i : ℕ) : Type 0 where
+  pub fits : i ≤ length s
+  pub counts : i + length (upTo c (drop i s)) ≡ length (upTo c s)
 
-  pub up-to-stop : i < length s → getD s i 0 ≡ c → length (upTo c (drop i s)) ≡ 0
-  unfolding upTo
-  up-to-stop h e = rw (left-cons s i h, eq-eqb _ _ e)
+pub none-passed : (c : ℕ) (s : List ℕ) → Passed c s 0
+none-passed c s = record { fits = zero-le; counts = omega arith }
 
-  pub up-to-end : length s ≤ i → length (upTo c (drop i s)) ≡ 0
+module _ {c : ℕ} {s : List ℕ} {i : ℕ} (p : Passed c s i) where
+  pub up-to-step : {j : ℕ} → j ≡ i + 1 → i < length s → (getD s i 0 ≡ c → ⊥) → Passed c s j
   unfolding upTo
-  up-to-end h = rw (drop-of-length-le s h)
+  up-to-step e h n = rw e (record { fits = omega arith; counts = omega (arith, rw (left-cons s i h, ne-eqb _ _ n) at (p .counts)) })
+
+  pub up-to-stop : i < length s → getD s i 0 ≡ c → i ≡ length (upTo c s)
+  unfolding upTo
+  up-to-stop h e = omega (arith, rw (left-cons s i h, eq-eqb _ _ e) at (p .counts))
+
+  pub up-to-end : length s ≤ i → i ≡ length (upTo c s)
+  unfolding upTo
+  up-to-end h = omega (arith, rw (drop-of-length-le s h) at (p .counts))
 
 module _ (a b : List ℕ) (i : ℕ) where
   pub same-step : i < length a → i < length b → getD a i 0 ≡ getD b i 0 → same (drop (i + 1) a) (drop (i + 1) b) ≡ same (drop i a) (drop i b)

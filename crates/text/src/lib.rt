@@ -87,12 +87,28 @@ pub fn is_name(f: &[u8]) -> bool
     (1 <= f.len()) & (f.len() <= 12) & all_name_bytes(f)
 }
 
-// How many bytes stand before the first c.
+// How many bytes stand before the first c. Four bytes a turn cost less than one.
 fn find(s: &[u8], c: u8) -> usize
     ensures { λ r. ⌜ r ≡ length (upTo c (now (s .entry))) ⌝ }
 {
+    let n = s.len();
     let mut i = 0;
-    while i < s.len() {
+    while 4 <= n - i {
+        if s[i] == c {
+            return i;
+        }
+        if s[i + 1] == c {
+            return i + 1;
+        }
+        if s[i + 2] == c {
+            return i + 2;
+        }
+        if s[i + 3] == c {
+            return i + 3;
+        }
+        i += 4;
+    }
+    while i < n {
         if s[i] == c {
             return i;
         }

@@ -1,7 +1,8 @@
 -- `analysis::respond` meets its contract. Assumes nothing.
+use Prim.Native.Nat.{_+_}
 use mathlib.Core.Path.{_∙_}
 use native.Mathlib.Omega.{arith}
-use Rattle.response.proofs.DemandLaws.{reached-own}
+use Rattle.response.proofs.CountLaws.{ones-handed}
 use Rattle.analysis.specs.Lists.{leastIn}
 use Rattle.analysis.proofs.AnswerLaws.{plain-handed, plain-is, task-handed, response-is}
 use borrow.Author.Needs.{needs}
@@ -10,18 +11,20 @@ use Rattle.analysis.proofs.respond.Tie as tie
 
 least-requires : tie.Need-least-requires
 least-requires c κs =
-    let listed = c .before .before .before .before in
-    let p = listed .before .before .before .before .before .before .pre in
+    let listed = c .before .before .before .before .before in
+    let s = listed .before .before .before .before .before .before in
+    let p = s .pre in
     let held = p .held in
-    (plain-handed _ (p .accepted) _ _ (omega arith) (omega arith) _ _ _ _ _ (listed .numbers .ensures), reached-own _ _ _)
+    let handed = plain-handed (s .args .table) (p .accepted) (s .args .i + 1) (s .args .i) (omega arith) (omega arith) _ _ _ _ _ (listed .numbers .ensures) in
+    (handed, ones-handed _ _ _ _ _ _ handed)
 
 returns : tie.Need-returns
 unfolding leastIn
 returns c =
-    let listed = c .before .before .before .before .before in
+    let listed = c .before .before .before .before .before .before in
     let s = listed .before .before .before .before .before .before in
     let held = s .pre .held in
-    c .least .ensures
+    c .least .ensures .0
     ∙ plain-is (s .args .table) (s .pre .accepted) _ (s .args .i) (omega arith) (omega arith) _ _ _ _ _ (listed .numbers .ensures) (s .args .method) (omega arith)
 
 answer-requires : tie.Need-answer-requires

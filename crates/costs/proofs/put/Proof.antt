@@ -5,17 +5,9 @@ use Rattle.costs.proofs.put.Statement.{statement}
 use Rattle.costs.proofs.put.Tie as tie
 
 returns : tie.Need-returns
-returns c = (rw (c .weight .ensures), simp length-set (c .before .pre .6))
+returns c = (rw (c .weight .ensures), simp length-set (c .before .pre .5))
 
 pub put-spec : {M : Type 1} → statement M
 put-spec =
     tie.close
-    (tie.spec
-    (λ c. search needs)
-    (λ c. search needs)
-    (λ c. search needs)
-    (λ c. search needs)
-    (λ c κs. search needs)
-    (λ c. search needs)
-    (λ c. search needs)
-    returns)
+    (tie.spec (λ c. search needs) (λ c. search needs) (λ c κs. search needs) (λ c. search needs) (λ c. search needs) returns)

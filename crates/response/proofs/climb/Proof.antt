@@ -1,45 +1,63 @@
--- `response::climb` meets its contract: the time that the loop has come to is below every solution. Assumes nothing.
+-- `response::climb` meets its contract: the time that the loop has come to is below every solution, and the counts are those of such a time.
+-- Assumes nothing.
 use Prim.Native.Nat.{suc, _-_, _≤_}
 use native.Mathlib.Omega.{arith}
 use Rattle.response.specs.Demand.{demandOf}
-use Rattle.response.specs.Least.{Reached}
-use Rattle.response.proofs.LeastLaws.{found, past, climb}
 use Rattle.response.specs.Flat.{flat}
+use Rattle.response.specs.Least.{Reached}
+use Rattle.response.specs.Counts.{Started}
+use Rattle.response.proofs.LeastLaws.{found, past, climb}
 use Rattle.response.proofs.DemandLaws.{demand-mono}
+use Rattle.response.proofs.CountLaws.{counted-started}
 use Rattle.response.proofs.climb.Statement.{statement}
 use Rattle.response.proofs.climb.Tie as tie
 
 abbrev Inv-loop : tie.InvT-loop
-Inv-loop own periods jitters weights n limit start r₀ turns₀ r turns =
-    Reached (demandOf own (flat periods jitters weights) n) r × (turns ≤ 16)
+Inv-loop own periods jitters weights n limit start counts₀ time₀ turns₀ counts time turns =
+    Reached (demandOf own (flat periods jitters weights) n) time × (turns ≤ 16) × Started own (flat periods jitters weights) n counts
 
 abbrev μ-loop : tie.MeasureT-loop
-μ-loop own periods jitters weights n limit start r₀ turns₀ r turns = suc limit - r
+μ-loop own periods jitters weights n limit start counts₀ time₀ turns₀ counts time turns = suc limit - time
+
+loop-holds : tie.Need-loop-holds Inv-loop μ-loop
+loop-holds c = let p = c .before .before .before .pre in (p .1, omega arith, p .2)
 
 hasten-requires : tie.Need-hasten-requires Inv-loop μ-loop
 hasten-requires c κs =
     let l = c .before .before in (l .before .before .before .before .pre .0, omega arith, l .loop .inv .0)
 
 returns : tie.Need-returns Inv-loop μ-loop
-returns c = c .hasten .ensures
+returns c = (c .hasten .ensures, c .before .before .before .loop .inv .2)
 
 demand-requires : tie.Need-demand-requires Inv-loop μ-loop
 demand-requires c κs =
-    let p = c .before .before .before .before .before .before .pre .0 in
-    record { few = p .few; own-least = p .own-least; own-most = p .own-most; time = omega arith; periods = p .periods; jitters = p .jitters; weights = p .weights; ranged = p .ranged }
+    let l = c .before .before .before in
+    let p = l .before .before .before .before .pre .0 in (
+      record { few = p .few; own-least = p .own-least; own-most = p .own-most; time = omega arith; periods = p .periods; jitters = p .jitters; weights = p .weights; ranged = p .ranged },
+      l .loop .inv .2 .kept,
+    )
 
 returns-2 : tie.Need-returns-2 Inv-loop μ-loop
-returns-2 c = found _ _ _ (c .before .before .before .before .loop .inv .0) (omega arith) (omega arith)
+returns-2 c =
+    let l = c .before .before .before .before .before in
+    let p = l .before .before .before .before .pre .0 in
+    let d = c .before .demand .ensures in (
+      found _ _ _ (l .loop .inv .0) (omega arith) (omega arith),
+      counted-started _ _ _ _ (p .ranged) _ (omega arith) (l .loop .inv .0) (d .1),
+    )
 
 loop-again : tie.Need-loop-again Inv-loop μ-loop
 loop-again c =
-    let l = c .before .before .before .before in (
-      rw (c .before .demand .ensures) (climb _ (demand-mono _ _ _ (l .before .before .before .before .pre .0 .ranged)) _ (l .loop .inv .0)),
+    let l = c .before .before .before .before .before in
+    let p = l .before .before .before .before .pre .0 in
+    let d = c .before .demand .ensures in (
+      rw (d .0) (climb _ (demand-mono _ _ _ (p .ranged)) _ (l .loop .inv .0)),
       omega arith,
+      counted-started _ _ _ _ (p .ranged) _ (omega arith) (l .loop .inv .0) (d .1),
     )
 
 returns-3 : tie.Need-returns-3 Inv-loop μ-loop
-returns-3 c = past _ _ _ (c .before .loop .inv .0) (omega arith)
+returns-3 c = let l = c .before in (past _ _ _ (l .loop .inv .0) (omega arith), l .loop .inv .2)
 
 pub climb-spec : {M : Type 1} → statement M
 climb-spec =
@@ -47,7 +65,7 @@ climb-spec =
     (tie.spec
     Inv-loop
     μ-loop
-    (λ c. (c .before .before .before .pre .1, omega arith))
+    loop-holds
     hasten-requires
     returns
     demand-requires

@@ -1,38 +1,74 @@
--- `response::demand` meets its contract: the sum is the demand of the terms passed, and at most a bound for each. Assumes nothing.
-use Prim.Native.Nat.{_+_, _-_, _*_, _≤_}
-use mathlib.Core.Path.{_≡_}
+-- `response::demand` meets its contract: the sum is the demand of the terms passed, and at most a bound for each, and their counts are exact.
+-- Assumes nothing.
+use Prim.Native.Nat.{ℕ, _+_, _-_, _*_, _≤_, _<_}
+use mathlib.Core.Path.{_≡_, ap}
 use native.Mathlib.Omega.{arith}
+use lib.ListN.{getD}
 use Rattle.response.specs.Demand.{demandOf}
 use Rattle.response.specs.Flat.{flat}
-use Rattle.response.proofs.DemandLaws.{demand-none, demand-next}
+use Rattle.response.specs.Counts.{Kept, Counted}
+use Rattle.response.proofs.DemandLaws.{asks-bound, demand-none, demand-next}
+use Rattle.response.proofs.CountLaws.{kept-next, counted-none, counted-next}
 use Rattle.response.proofs.demand.Statement.{statement}
 use Rattle.response.proofs.demand.Tie as tie
 
 abbrev Inv-loop : tie.InvT-loop
-Inv-loop own periods jitters weights n r sum₀ i₀ sum i =
+Inv-loop own periods jitters weights n r counts₀ sum₀ i₀ counts sum i =
     (i ≤ n) × (sum ≡ demandOf own (flat periods jitters weights) i r) × (sum ≤ own + i * 250000000000000000)
+    × Kept n counts × Counted (flat periods jitters weights) i r counts
 
 abbrev μ-loop : tie.MeasureT-loop
-μ-loop own periods jitters weights n r sum₀ i₀ sum i = n - i
+μ-loop own periods jitters weights n r counts₀ sum₀ i₀ counts sum i = n - i
 
 loop-holds : tie.Need-loop-holds Inv-loop μ-loop
 loop-holds c =
-    let a = c .before .before .before .args in
-    omega (arith, demand-none (a .own) (flat (a .periods .now) (a .jitters .now) (a .weights .now)) (a .r))
+    let s = c .before .before .before in
+    let a = s .args in
+    let e = demand-none (a .own) (flat (a .periods .now) (a .jitters .now) (a .weights .now)) (a .r) in
+    (omega arith, omega arith, omega arith, s .pre .1, counted-none _ _ _ (s .pre .1 .long))
 
-work-requires : tie.Need-work-requires Inv-loop μ-loop
-work-requires c κs =
-    let h = c .before .before .before .before in
-    (omega arith, h .before .before .before .before .pre .ranged (h .loop .i) (omega arith))
+add-activations : tie.Need-add-activations Inv-loop μ-loop
+add-activations c =
+    let l = c .before .before .before in
+    omega (arith, l .before .before .before .before .pre .0 .ranged (l .loop .i) (omega arith) .jitter)
+
+activations-requires : tie.Need-activations-requires Inv-loop μ-loop
+activations-requires c κs =
+    let l = c .before .before .before .before in
+    let t = l .before .before .before .before .pre .0 .ranged (l .loop .i) (omega arith) in
+    (t .period, t .period-most, omega (arith, t .jitter), l .loop .inv .3 .few (l .loop .i) (omega arith))
+
+-- what the term at i asks for
+asks : (c : tie.After-shared-slice-known6 Inv-loop μ-loop) → let l = c .before .before .before .before .before .before in
+    c .before .activations .result * getD (l .before .before .before .before .args .weights .now) (l .loop .i) 0 ≤ 250000000000000000
+asks c =
+    let l = c .before .before .before .before .before .before in
+    asks-bound _ _ (c .before .activations .ensures .1) (l .before .before .before .before .pre .0 .ranged (l .loop .i) (omega arith) .weight)
+
+mul-sum-2 : tie.Need-mul-sum-2 Inv-loop μ-loop
+mul-sum-2 c = omega (arith, asks c)
+
+add-sum : tie.Need-add-sum Inv-loop μ-loop
+add-sum c = omega (arith, asks c)
 
 loop-again : tie.Need-loop-again Inv-loop μ-loop
 loop-again c =
-    let h = c .before .before .before .before .before in
-    let a = h .before .before .before .before .args in
-    (omega arith, omega (arith, demand-next (a .own) (flat (a .periods .now) (a .jitters .now) (a .weights .now)) (a .r) (h .loop .i)), omega arith)
+    let l = c .before .before .before .before .before .before in
+    let a = l .before .before .before .before .args in
+    let d = c .before .activations .ensures in
+    let w = getD (a .weights .now) (l .loop .i) 0 in
+    let few : l .loop .i < 32 = omega arith in (
+      omega arith,
+      omega (arith, ap (λ (k : ℕ). k * w) (d .0), demand-next (a .own) (flat (a .periods .now) (a .jitters .now) (a .weights .now)) (a .r) (l .loop .i)),
+      omega (arith, asks c),
+      kept-next _ _ _ few _ (d .1) (l .loop .inv .3),
+      counted-next _ _ _ few _ _ (d .0) (l .loop .inv .4),
+    )
 
 returns : tie.Need-returns Inv-loop μ-loop
-returns c = let e : c .before .loop .i ≡ c .before .before .before .before .before .args .n = omega arith in rw (← e) (c .before .loop .inv .1)
+returns c =
+    let l = c .before in
+    let e : l .loop .i ≡ l .before .before .before .before .args .n = omega arith in (rw (← e) (l .loop .inv .1), rw (← e) (l .loop .inv .4))
 
 pub demand-spec : {M : Type 1} → statement M
 demand-spec =
@@ -45,10 +81,16 @@ demand-spec =
     (λ c. omega arith)
     (λ c. omega arith)
     (λ c. omega arith)
+    add-activations
     (λ c. omega arith)
     (λ c. omega arith)
-    work-requires
+    activations-requires
     (λ c. omega arith)
+    (λ c. omega arith)
+    (λ c. omega arith)
+    (λ c. omega arith)
+    mul-sum-2
+    add-sum
     (λ c. omega arith)
     (λ c. omega arith)
     loop-again

@@ -1,91 +1,158 @@
--- `sets::CacheSet::from_field` meets its contract. The loop's invariant: reading on from the number so far gives what the whole field gives.
+-- `sets::CacheSet::from_field` meets its contract. Word by word, reading on from the number so far gives what the whole field gives.
 -- Assumes nothing.
-use Prim.Native.Nat.{_-_}
-use mathlib.Core.Path.{_≡_, sym, ap, _∙_}
-use mathlib.Core.Option.{some, none}
+use Prim.Native.Nat.{ℕ, _+_, _-_, _*_, _^_}
+use mathlib.Core.Path.{_≡_, sym, ap, _∙_, subst}
+use mathlib.Core.List.{List}
+use mathlib.Core.Option.{Option, none}
 use native.Mathlib.Omega.{arith}
-use lib.ListN.{length, getD}
+use lib.ListN.{length}
 use borrow.Author.Needs.{needs}
-use Rattle.sets.specs.Field.{hexDigit, ofNumber, digitSays}
+use Rattle.sets.specs.Field.{readHex, ofNumber, readSet, wordSays}
 use Rattle.sets.specs.declared.SetField.the-variants.{Set}
+use Rattle.sets.specs.declared.Word.{Word}
 use Rattle.sets.specs.Words.{number}
-use Rattle.sets.proofs.WordLaws.{InRange, words-number}
-use Rattle.sets.proofs.FieldLaws.{Reading, begin, ended, no-digit, room, one-more, digit-lt, too-many, wrong-length, right-length}
+use Rattle.sets.proofs.WordLaws.{words-number}
+use Rattle.sets.proofs.FieldLaws.{Reading, begin, ended, at-most-sixteen, no-word, word-more, too-many, wrong-length, right-length}
 use Rattle.sets.proofs.CacheSet.from_field.Statement.{statement}
 use Rattle.sets.proofs.CacheSet.from_field.Tie as tie
 
-abbrev Inv-loop : tie.InvT-loop
-Inv-loop field sets set₀ i₀ set i = Reading field (number set) i × InRange set
+-- ---- the field and where it is cut
 
-abbrev μ-loop : tie.MeasureT-loop
-μ-loop field sets set₀ i₀ set i = length field - i
+abbrev bytes : tie.After-less3 → List ℕ
+bytes s = s .before .before .before .before .before .before .args .field .now
 
-returns : tie.Need-returns Inv-loop μ-loop
+abbrev table-sets : tie.After-less3 → ℕ
+table-sets s = s .before .before .before .before .before .before .args .sets
+
+abbrev to-w3 : tie.After-less3 → ℕ
+to-w3 s = s .before .before .less .result
+
+abbrev to-w2 : tie.After-less3 → ℕ
+to-w2 s = s .before .less2 .result
+
+abbrev to-w1 : tie.After-less3 → ℕ
+to-w1 s = s .less3 .result
+
+cuts : (s : tie.After-less3) → (0 ≡ to-w3 s - 16) × (to-w3 s ≡ to-w2 s - 16) × (to-w2 s ≡ to-w1 s - 16) × (to-w1 s ≡ length (bytes s) - 16)
+cuts s = (search needs, search needs, search needs, search needs)
+
+-- what the field says, once its digits say o
+answer : (s : tie.After-less3) (o : Option ℕ) → readHex 0 (bytes s) ≡ o → ofNumber o ≡ readSet (table-sets s) (bytes s)
+answer s o e = sym (right-length _ _ (search needs) (search needs) ∙ ap ofNumber e)
+
+-- ---- the number read where each word is known
+
+said : {r r′ : Word} {o : Option ℕ} → wordSays r ≡ o → r ≡ r′ → o ≡ wordSays r′
+said e is = sym e ∙ ap wordSays is
+
+abbrev at-w3 : tie.After-known-told → tie.After-less3
+at-w3 c = c .before .before .before .before .before
+
+abbrev at-w2 : tie.After-known-told2 → tie.After-less3
+at-w2 c = at-w3 (c .before .before .before .before .before)
+
+abbrev at-w1 : tie.After-known-told3 → tie.After-less3
+at-w1 c = at-w2 (c .before .before .before .before .before)
+
+abbrev number3 : tie.After-known-told → ℕ
+number3 c = c .before .w3 .given .0 .0
+
+abbrev number2 : tie.After-known-told2 → ℕ
+number2 c = number3 (c .before .before .before .before .before) * 2 ^ 64 + c .before .w2 .given .0 .0
+
+abbrev number1 : tie.After-known-told3 → ℕ
+number1 c = number2 (c .before .before .before .before .before) * 2 ^ 64 + c .before .w1 .given .0 .0
+
+read-w3 : (c : tie.After-known-told) → Reading (bytes (at-w3 c)) (number3 c) (to-w3 (at-w3 c))
+read-w3 c =
+    subst (λ (n : ℕ). Reading (bytes (at-w3 c)) n (to-w3 (at-w3 c))) (omega arith)
+    (word-more (begin (bytes (at-w3 c))) (cuts (at-w3 c) .0) (search needs) _ (said (c .before .before .before .word-of .ensures) (c .before .w3 .given .1)))
+
+read-w2 : (c : tie.After-known-told2) → Reading (bytes (at-w2 c)) (number2 c) (to-w2 (at-w2 c))
+read-w2 c =
+    word-more (read-w3 (c .before .before .before .before .before)) (cuts (at-w2 c) .1) (search needs) _
+    (said (c .before .before .before .word-of2 .ensures) (c .before .w2 .given .1))
+
+read-w1 : (c : tie.After-known-told3) → Reading (bytes (at-w1 c)) (number1 c) (to-w1 (at-w1 c))
+read-w1 c =
+    word-more (read-w2 (c .before .before .before .before .before)) (cuts (at-w1 c) .2) (search needs) _
+    (said (c .before .before .before .word-of3 .ensures) (c .before .w1 .given .1))
+
+-- ---- the answers
+
+returns : tie.Need-returns
 returns c = sym (too-many _ _ (search needs))
 
-returns-2 : tie.Need-returns-2 Inv-loop μ-loop
+returns-2 : tie.Need-returns-2
 returns-2 c = sym (wrong-length _ _ (search needs) (c .if2 .taken))
 
-loop-holds : tie.Need-loop-holds Inv-loop μ-loop
-unfolding number
-loop-holds c = (begin _, search needs)
-
-shared-slice-read-digit-of : tie.Need-shared-slice-read-digit-of Inv-loop μ-loop
-shared-slice-read-digit-of c = search needs
-
-digit-of-requires : tie.Need-digit-of-requires Inv-loop μ-loop
-digit-of-requires c κs = search needs
-
-enum-known-d : tie.Need-enum-known-d Inv-loop μ-loop
-enum-known-d c = search needs
-
-enum-told : tie.Need-enum-told Inv-loop μ-loop
-enum-told c = search needs
-
-returns-3 : tie.Need-returns-3 Inv-loop μ-loop
+returns-3 : tie.Need-returns-3
 returns-3 c =
-    let h = c .before .before .before .before .before in
-    let e : hexDigit _ ≡ none = sym (c .before .before .digit-of .ensures) ∙ ap digitSays (c .enum-told .given .1) in
-    sym (right-length _ _ (search needs) (search needs) ∙ ap ofNumber (no-digit (h .loop .inv .0) (search needs) e))
+    let s = c .before .before .before .before in
+    answer s none (no-word (begin (bytes s)) (cuts s .0) (search needs) (said (c .before .before .word-of .ensures) (c .enum-told .given .1)))
 
--- the byte at i is the digit d
-is-digit : (c : tie.After-known-told Inv-loop μ-loop) → hexDigit (getD (c .before .before .before .before .before .before .before .before .before .before .args .field .now) (c .before .before .before .before .before .before .loop .i) 0) ≡ some (c .before .d .given .0 .0)
-is-digit c = sym (c .before .before .before .digit-of .ensures) ∙ ap digitSays (c .before .d .given .1)
-
-shift-in-requires : tie.Need-shift-in-requires Inv-loop μ-loop
-shift-in-requires c κs =
-    (digit-lt _ _ (is-digit c), room (c .before .before .before .before .before .before .loop .inv .0) (search needs) (omega arith))
-
-add-i : tie.Need-add-i Inv-loop μ-loop
-add-i c = search needs
-
-loop-less : tie.Need-loop-less Inv-loop μ-loop
-loop-less c = search needs
-
-loop-again : tie.Need-loop-again Inv-loop μ-loop
-loop-again c =
-    (rw (c .shift-in .ensures) (one-more (c .before .before .before .before .before .before .before .loop .inv .0) (search needs) _ (is-digit (c .before))), search needs)
-
-returns-4 : tie.Need-returns-4 Inv-loop μ-loop
+returns-4 : tie.Need-returns-4
 returns-4 c =
-    sym (right-length _ _ (search needs) (search needs) ∙ ap ofNumber (ended (c .before .loop .inv .0) (search needs)) ∙ ap Set (words-number _ (c .before .loop .inv .1)))
+    let r = c .before .before .before .before in
+    answer (at-w3 r) none (no-word (read-w3 r) (cuts (at-w3 r) .1) (search needs) (said (c .before .before .word-of2 .ensures) (c .enum-told2 .given .1)))
+
+returns-5 : tie.Need-returns-5
+returns-5 c =
+    let r = c .before .before .before .before in
+    answer (at-w2 r) none (no-word (read-w2 r) (cuts (at-w2 r) .2) (search needs) (said (c .before .before .word-of3 .ensures) (c .enum-told3 .given .1)))
+
+word-of-requires-4 : tie.Need-word-of-requires-4
+word-of-requires-4 c κs =
+    let s = at-w1 (c .before) in
+    at-most-sixteen (bytes s) (to-w1 s) (length (bytes s)) (cuts s .3)
+
+returns-6 : tie.Need-returns-6
+returns-6 c =
+    let r = c .before .before .before .before in
+    answer (at-w1 r) none (no-word (read-w1 r) (cuts (at-w1 r) .3) (search needs) (said (c .before .before .word-of4 .ensures) (c .enum-told4 .given .1)))
+
+returns-7 : tie.Need-returns-7
+unfolding number
+returns-7 c =
+    let r = c .before .before .before .before .before in
+    let all = word-more (read-w1 r) (cuts (at-w1 r) .3) (search needs) _ (said (c .before .before .before .word-of4 .ensures) (c .before .w0 .given .1)) in
+    ap Set (sym (words-number _ (search needs))) ∙ answer (at-w1 r) _ (ended all (search needs))
 
 pub from-field-spec : {M : Type 1} → statement M
 from-field-spec =
     tie.close
     (tie.spec
-    Inv-loop
-    μ-loop
     returns
     returns-2
-    loop-holds
-    shared-slice-read-digit-of
-    digit-of-requires
-    enum-known-d
-    enum-told
+    (λ c κs. search needs)
+    (λ c κs. search needs)
+    (λ c κs. search needs)
+    (λ c. search needs)
+    (λ c. search needs)
+    (λ c. search needs)
+    (λ c κs. search needs)
+    (λ c. search needs)
+    (λ c. search needs)
     returns-3
-    shift-in-requires
-    add-i
-    loop-less
-    loop-again
-    returns-4)
+    (λ c. search needs)
+    (λ c. search needs)
+    (λ c. search needs)
+    (λ c κs. search needs)
+    (λ c. search needs)
+    (λ c. search needs)
+    returns-4
+    (λ c. search needs)
+    (λ c. search needs)
+    (λ c. search needs)
+    (λ c κs. search needs)
+    (λ c. search needs)
+    (λ c. search needs)
+    returns-5
+    (λ c. search needs)
+    (λ c. search needs)
+    (λ c. search needs)
+    word-of-requires-4
+    (λ c. search needs)
+    (λ c. search needs)
+    returns-6
+    returns-7)
