@@ -5,33 +5,18 @@ use native.Mathlib.Decide.{ℕ-discrete}
 use native.Mathlib.Numerals.{add-one}
 use native.Mathlib.Omega.{arith}
 use mathlib.Core.Path.{_≡_, refl, sym, _∙_}
-use mathlib.Core.Bool.{Bool, true, false, _&&_}
 use mathlib.Core.List.{List}
 use borrow.Author.Count.{below-more}
-use borrow.Author.Tests.{leb-true, ltb-true}
-use lib.Dec.{leb, ltb}
 use lib.ListN.{getD, length, set, replicate, length-set, length-replicate, getD-replicate}
 use lib.Seq.{getD-set-same, getD-set-other}
-use Rattle.response.specs.Demand.{Term, ceil, activationsOf, demandOf, NoMore}
+use Rattle.response.specs.Demand.{Term, activationsOf, demandOf, NoMore}
 use Rattle.response.specs.Flat.{flat, InRange, Handed}
 use Rattle.response.specs.Least.{Reached}
 use Rattle.response.specs.Counts.{askedOf, Kept, Counted, Started}
 use Rattle.response.proofs.PositionLaws.{none, next}
 use Rattle.response.proofs.LeastLaws.{solution-under, reached-below}
-use Rattle.response.proofs.DemandLaws.{ceil-le, ceil-is, activations-mono, activations-bound, no-more-self}
+use Rattle.response.proofs.DemandLaws.{ceil-le, activations-mono, activations-bound, no-more-self}
 use Rattle.response.proofs.DemandLaws.{demand-none, demand-next, demand-own, demand-mono, demand-more}
-
--- ---- a count that is tested
-
-both-true : (a b : Bool) → (a && b) ≡ true → (a ≡ true) × (b ≡ true)
-both-true true b e = (refl, e)
-both-true false b e = (e, cc)
-
-pub count-is : (due count period : ℕ) → 1 ≤ period → (leb due (count * period) && ltb (count * period) (due + period)) ≡ true
-    → count ≡ ceil due period
-count-is due count period h e =
-    let p = both-true (leb due (count * period)) (ltb (count * period) (due + period)) e in
-    ceil-is due count period h (leb-true _ _ (p .0)) (ltb-true _ _ (p .1))
 
 -- ---- one count anew
 
@@ -81,10 +66,10 @@ module _ (own : ℕ) (ws counts : List ℕ) where
       )
 
   -- the iteration may go on from there
-  pub asked-reached : (ps js : List ℕ) (n : ℕ) → ((j : ℕ) → j < n → InRange (flat ps js ws j)) → Started own (flat ps js ws) n counts
+  pub asked-reached : {ps js : List ℕ} {n r : ℕ} → Handed own ps js ws n r → Started own (flat ps js ws) n counts
       → Reached (demandOf own (flat ps js ws) n) (askedOf own ws counts n)
-  asked-reached ps js n ranged p =
-      reached-below _ (demand-mono (flat ps js ws) n own ranged) _ (λ s e. omega (arith, asked-under ps js s n (p .under s e)))
+  asked-reached {ps} {js} {n} p q =
+      reached-below _ (demand-mono (flat ps js ws) n own (p .ranged)) _ (λ s e. omega (arith, asked-under ps js s n (q .under s e)))
 
 -- ---- counts to start from
 

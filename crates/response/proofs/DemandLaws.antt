@@ -1,14 +1,14 @@
--- Facts about the demand: what a term asks for, the demand of one term more, that it grows with all that it is made of, and where the iteration
--- may start. Assumes nothing.
+-- Facts about the demand: what a term asks for, the demand of one term more, and that it grows with all that it is made of. Assumes nothing.
 use Prim.Native.Nat.{ℕ, zero, suc, _+_, _-_, _*_, _≤_, _<_, zero-le}
 use native.Mathlib.Nat.{div-lt-iff-lt-mul, le-antisymm, lt-of-not-le, mul-le-mul, mul-le-mul-left}
 use native.Mathlib.Omega.{arith}
 use mathlib.Core.Path.{_≡_, refl, sym, ap, fun-ext}
 use mathlib.Core.Logic.{_↔_}
+use mathlib.Core.List.{List}
 use Rattle.response.specs.declared.Response.the-variants.{Unschedulable}
 use Rattle.response.specs.Positions.{hp}
 use Rattle.response.specs.Demand.{Term, ceil, activationsOf, workOf, demandOf, NoMore}
-use Rattle.response.specs.Flat.{InRange}
+use Rattle.response.specs.Flat.{InRange, Handed}
 use Rattle.response.specs.Least.{leastOf, NoLater}
 use Rattle.response.proofs.LeastLaws.{Monotone, leastOf-no-later}
 use Rattle.response.proofs.SoonerLaws.{none-latest}
@@ -60,6 +60,19 @@ asks-bound c w h k = mul-le-mul {n₂ = 500000000} {m₂ = 500000000} h k
 
 pub work-bound : (r : ℕ) (t : Term) → InRange t → r ≤ 250000000 → workOf r t ≤ 250000000000000000
 work-bound r t p h = asks-bound (activationsOf r t) (t .weight) (activations-bound r t p h) (p .weight)
+
+-- the same terms may be handed in for other work of the task's own, and at another time
+pub handed-for : {own n r : ℕ} {ps js ws : List ℕ} → Handed own ps js ws n r → {c s : ℕ} → 1 ≤ c → c ≤ 500000000 → s ≤ 250000000 → Handed c ps js ws n s
+handed-for p least most time = record {
+  few = p .few;
+  own-least = least;
+  own-most = most;
+  time = time;
+  periods = p .periods;
+  jitters = p .jitters;
+  weights = p .weights;
+  ranged = p .ranged;
+}
 
 -- ---- the demand
 

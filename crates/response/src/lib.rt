@@ -47,8 +47,8 @@ fn activations(period: u64, due: u64, before: u64) -> u64
     ensures { λ r. ⌜ (r ≡ ceil due period) × (r ≤ 500000000) ⌝ }
 {
     let count = before + one_if(before * period < due);
-    let reach = count * period;
-    if (due <= reach) & (reach < due + period) {
+    // Where the count falls short of `due` the difference wraps, and is then above every period.
+    if std::num::wrapping_sub_u64(count * period, due) < period {
         return count;
     }
     (due + (period - 1)) / period

@@ -1,6 +1,6 @@
 -- `response::asked` meets its contract: the sum is what the counts before i ask for, and at most a bound for each. Assumes nothing.
 use Prim.Native.Nat.{_+_, _-_, _*_, _≤_}
-use mathlib.Core.Path.{_≡_}
+use mathlib.Core.Path.{_≡_, sym}
 use native.Mathlib.Omega.{arith}
 use lib.ListN.{getD}
 use Rattle.response.specs.Counts.{askedOf}
@@ -16,7 +16,7 @@ abbrev μ-loop : tie.MeasureT-loop
 μ-loop own weights n counts sum₀ i₀ sum i = n - i
 
 loop-holds : tie.Need-loop-holds Inv-loop μ-loop
-loop-holds c = omega (arith, asked-none (c .args .own) (c .args .weights .now) (c .args .counts .now))
+loop-holds c = (omega arith, sym (asked-none _ _ _), omega arith)
 
 -- what the term at i asks for
 asks : (c : tie.After-shared-slice-known Inv-loop μ-loop) → let l = c .before .before .before in
@@ -33,9 +33,7 @@ add-sum : tie.Need-add-sum Inv-loop μ-loop
 add-sum c = omega (arith, asks c)
 
 loop-again : tie.Need-loop-again Inv-loop μ-loop
-loop-again c =
-    let l = c .before .before .before in
-    let a = l .before .args in omega (arith, asks c, asked-next (a .own) (a .weights .now) (a .counts .now) (l .loop .i))
+loop-again c = (omega arith, rw (c .before .before .before .loop .inv .1) (sym (asked-next _ _ _ _)), omega (arith, asks c))
 
 returns : tie.Need-returns Inv-loop μ-loop
 returns c = let e : c .before .loop .i ≡ c .before .before .args .n = omega arith in rw (← e) (c .before .loop .inv .1)

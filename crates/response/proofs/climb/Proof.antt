@@ -7,7 +7,7 @@ use Rattle.response.specs.Flat.{flat}
 use Rattle.response.specs.Least.{Reached}
 use Rattle.response.specs.Counts.{Started}
 use Rattle.response.proofs.LeastLaws.{found, past, climb}
-use Rattle.response.proofs.DemandLaws.{demand-mono}
+use Rattle.response.proofs.DemandLaws.{handed-for, demand-mono}
 use Rattle.response.proofs.CountLaws.{counted-started}
 use Rattle.response.proofs.climb.Statement.{statement}
 use Rattle.response.proofs.climb.Tie as tie
@@ -32,29 +32,23 @@ returns c = (c .hasten .ensures, c .before .before .before .loop .inv .2)
 demand-requires : tie.Need-demand-requires Inv-loop μ-loop
 demand-requires c κs =
     let l = c .before .before .before in
-    let p = l .before .before .before .before .pre .0 in (
-      record { few = p .few; own-least = p .own-least; own-most = p .own-most; time = omega arith; periods = p .periods; jitters = p .jitters; weights = p .weights; ranged = p .ranged },
-      l .loop .inv .2 .kept,
-    )
+    let p = l .before .before .before .before .pre .0 in (handed-for p (p .own-least) (p .own-most) (omega arith), l .loop .inv .2 .kept)
 
 returns-2 : tie.Need-returns-2 Inv-loop μ-loop
 returns-2 c =
     let l = c .before .before .before .before .before in
-    let p = l .before .before .before .before .pre .0 in
-    let d = c .before .demand .ensures in (
-      found _ _ _ (l .loop .inv .0) (omega arith) (omega arith),
-      counted-started _ _ _ _ (p .ranged) _ (omega arith) (l .loop .inv .0) (d .1),
+    let at = l .loop .inv .0 in (
+      found _ _ _ at (omega arith) (omega arith),
+      counted-started _ _ _ _ (l .before .before .before .before .pre .0 .ranged) _ (omega arith) at (c .before .demand .ensures .1),
     )
 
 loop-again : tie.Need-loop-again Inv-loop μ-loop
 loop-again c =
     let l = c .before .before .before .before .before in
-    let p = l .before .before .before .before .pre .0 in
-    let d = c .before .demand .ensures in (
-      rw (d .0) (climb _ (demand-mono _ _ _ (p .ranged)) _ (l .loop .inv .0)),
-      omega arith,
-      counted-started _ _ _ _ (p .ranged) _ (omega arith) (l .loop .inv .0) (d .1),
-    )
+    let at = l .loop .inv .0 in
+    let ranged = l .before .before .before .before .pre .0 .ranged in
+    let d = c .before .demand .ensures in
+    (rw (d .0) (climb _ (demand-mono _ _ _ ranged) _ at), omega arith, counted-started _ _ _ _ ranged _ (omega arith) at (d .1))
 
 returns-3 : tie.Need-returns-3 Inv-loop μ-loop
 returns-3 c = let l = c .before in (past _ _ _ (l .loop .inv .0) (omega arith), l .loop .inv .2)

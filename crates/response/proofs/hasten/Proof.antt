@@ -5,6 +5,7 @@ use Rattle.response.specs.Demand.{demandOf}
 use Rattle.response.specs.Least.{Reached}
 use Rattle.response.proofs.LeastLaws.{found, past}
 use Rattle.response.specs.Flat.{flat}
+use Rattle.response.proofs.DemandLaws.{handed-for}
 use Rattle.response.proofs.HastenLaws.{full}
 use Rattle.response.proofs.hasten.Statement.{statement}
 use Rattle.response.proofs.hasten.Tie as tie
@@ -17,9 +18,7 @@ abbrev μ-loop : tie.MeasureT-loop
 μ-loop own periods jitters weights n limit start r₀ reach₀ r reach = suc limit - r
 
 left-by-requires : tie.Need-left-by-requires Inv-loop μ-loop
-left-by-requires c κs =
-    let p = c .before .before .before .pre .0 in
-    record { few = p .few; own-least = omega arith; own-most = omega arith; time = omega arith; periods = p .periods; jitters = p .jitters; weights = p .weights; ranged = p .ranged }
+left-by-requires c κs = handed-for (c .before .before .before .pre .0) (omega arith) (omega arith) (omega arith)
 
 returns : tie.Need-returns Inv-loop μ-loop
 returns c =

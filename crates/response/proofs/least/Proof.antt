@@ -11,14 +11,8 @@ asked-requires c κs =
 
 climb-requires : tie.Need-climb-requires
 climb-requires c κs =
-    let s = c .before .before .before .before .before .before in
-    let a = s .args in
-    let p = s .pre in (
-      p .0,
-      rw (c .before .asked .ensures)
-          (asked-reached (a .own .0) (a .weights .now) (a .counts .now) (a .periods .now) (a .jitters .now) (a .n) (p .0 .ranged) (p .1)),
-      p .1,
-    )
+    let p = c .before .before .before .before .before .before .pre in
+    (p .0, rw (c .before .asked .ensures) (asked-reached _ _ _ (p .0) (p .1)), p .1)
 
 pub least-spec : {M : Type 1} → statement M
 least-spec = tie.close (tie.spec asked-requires climb-requires (λ c. search needs))
