@@ -14,17 +14,15 @@ use Rattle.response.specs.declared.Cell.{Cell}
 use Rattle.response.specs.Demand.{demandOf}
 use Rattle.response.specs.Flat.{flat, Handed}
 use Rattle.response.specs.Least.{leastOf, LeastWithin, sooner}
-use Rattle.response.specs.Positions.{hp}
-use Rattle.response.proofs.PositionLaws.{map-same}
 use Rattle.response.proofs.LeastLaws.{leastOf-least}
 use Rattle.response.proofs.DemandLaws.{demand-same}
 use Rattle.table.specs.declared.Table.{Table}
 use Rattle.table.specs.Accepted.{AcceptedTable}
 use Rattle.costs.specs.Costs.{ucb, ecb, reloadsOf, termAt}
-use Rattle.costs.specs.Lent.{Lent, weightIn}
-use Rattle.costs.proofs.LentLaws.{front-at, front-long}
+use Rattle.costs.specs.Lent.{Lent, weightIn, front}
+use Rattle.costs.proofs.LentLaws.{front-at, front-long, front-same}
 use Rattle.costs.proofs.OrderLaws.{reloads-same, term-ranged}
-use Rattle.analysis.specs.Analysis.{ownOf, limitOf, answerOf, withCombined, responseOf, methods, cell, rowOf}
+use Rattle.analysis.specs.Analysis.{ownOf, limitOf, answerOf, withCombined, responseOf, methods, cell, rowOf, noRow, rowsOf}
 use Rattle.analysis.specs.Lists.{Numbers, Sets, leastIn, weightsIn, singleIn, TaskHanded, rowIn, RowsHanded}
 
 -- what an answer means
@@ -133,14 +131,14 @@ module _ (table : Table) (accepted : AcceptedTable table) (n i : ℕ) (here : i 
     -- ---- one task
 
     weights-are : (m j : ℕ) → j < i → getD (weightsIn ws us es (table .brt .0) i m) j 0 ≡ weightAt table m i j
-    weights-are m j l = front-at _ i j l ∙ weight-is m j l
+    weights-are m j l = front-at 0 _ i j 0 l ∙ weight-is m j l
 
     pub task-handed : TaskHanded (getD os i 0) (getD ls i 0) i ps js ws us es (table .brt .0)
     task-handed =
         let few = accepted .few in
         record {
           lent = lent table accepted n (i + 1) (omega arith) held ps js ws os ls numbers us es sets;
-          handed = λ m h. handed-by m _ (weights-are m) (omega (arith, front-long (weightIn ws (table .brt .0) us es m i) i (omega arith)));
+          handed = λ m h. handed-by m _ (weights-are m) (omega (arith, front-long 0 (weightIn ws (table .brt .0) us es m i) i (omega arith)));
         }
 
     single-is : (m : ℕ) → singleIn (getD os i 0) (getD ls i 0) i ps js ws us es (table .brt .0) m ≡ answerOf table m i
@@ -167,10 +165,10 @@ module _ (table : Table) (accepted : AcceptedTable table) (ps js ws os ls : List
         rows = λ i l. task-handed table accepted (table .count) i l (omega arith) ps js ws os ls numbers us es sets;
       }
 
-  pub rows-same : map (rowIn os ls ps js ws us es (table .brt .0)) (hp (table .count)) ≡ map (rowOf table) (hp (table .count))
+  pub rows-same : front noRow (rowIn os ls ps js ws us es (table .brt .0)) (table .count) ≡ rowsOf table
   unfolding responseOf
   rows-same =
-      map-same _ _ (table .count)
+      front-same noRow _ (rowOf table) (table .count)
       (λ i l. ap (λ (cs : List Cell). record { cells = cs })
       (cells-same (singleIn (getD os i 0) (getD ls i 0) i ps js ws us es (table .brt .0)) (λ m. answerOf table m i)
       (λ m h. single-is table accepted (table .count) i l (omega arith) ps js ws os ls numbers us es sets m)))

@@ -70,7 +70,7 @@ module _ (own limit i : ℕ) (ps js works ucb ecb : List ℕ) (brt : ℕ) (p : T
       getD-take (from + 32 - from) (drop from ws) j 0 (omega arith) ∙ getD-drop from ws j 0 ∙ weighed .each m j h l
 
   same-term : (m : ℕ) → m ≤ 4 → (j : ℕ) → j < i → flat ps js (rowAt ws m) j ≡ flat ps js (weightsIn works ucb ecb brt i m) j
-  same-term m h j l = rw (row-is m h j l, front-at (weightIn works brt ucb ecb m i) i j l)
+  same-term m h j l = rw (row-is m h j l, front-at 0 (weightIn works brt ucb ecb m i) i j 0 l)
 
   row-long : (m : ℕ) → m ≤ 4 → i ≤ length (rowAt ws m)
   row-long m h = let few = p .lent .few in let long = weighed .long in simp (length-take, length-drop) (omega arith)

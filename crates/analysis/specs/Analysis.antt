@@ -3,7 +3,9 @@ use Prim.Native.Nat.{ℕ, _+_, _-_, _≤_, _<_}
 use mathlib.Core.Bool.{cond}
 use mathlib.Core.List.{List, [], _∷_, map}
 use lib.Dec.{eqb}
+use lib.ListN.{replicate}
 use Rattle.response.specs.declared.Response.{Response}
+use Rattle.response.specs.declared.Response.the-variants.{Unschedulable}
 use Rattle.response.specs.declared.Cell.{Cell}
 use Rattle.response.specs.declared.Row.{Row}
 use Rattle.response.specs.Demand.{demandOf}
@@ -12,6 +14,7 @@ use Rattle.table.specs.declared.Table.{Table}
 use Rattle.table.specs.Tasks.{at}
 use Rattle.table.specs.Accepted.{AcceptedTable}
 use Rattle.costs.specs.Costs.{termAt}
+use Rattle.costs.specs.Lent.{front}
 
 -- C + B and D - J of the task at i
 abbrev pub ownOf : Table → ℕ → ℕ
@@ -40,6 +43,13 @@ cell r = record { response = r }
 
 abbrev pub rowOf : Table → ℕ → Row
 rowOf table i = record { cells = map (λ m. cell (responseOf table m i)) methods }
+
+-- the rows of all tasks, and after them rows without a response: there are always 32
+abbrev pub noRow : Row
+noRow = record { cells = replicate 6 (cell Unschedulable) }
+
+abbrev pub rowsOf : Table → List Row
+rowsOf table = front noRow (rowOf table) (table .count)
 
 -- what a call is to be handed: an accepted table, a method up to `last` and a task's position
 pub record Asked (last : ℕ) (table : Table) (m i : ℕ) : Type 0 where

@@ -42,7 +42,7 @@ leastIn own limit i ps js ws = leastOf (demandOf own (flat ps js ws) i) limit
 
 -- the weights of the tasks above i under method m, and the answer by them
 abbrev pub weightsIn : List ℕ → List ℕ → List ℕ → ℕ → ℕ → ℕ → List ℕ
-weightsIn works ucb ecb brt i m = front (weightIn works brt ucb ecb m i) i
+weightsIn works ucb ecb brt i m = front 0 (weightIn works brt ucb ecb m i) i
 
 abbrev pub singleIn : ℕ → ℕ → ℕ → List ℕ → List ℕ → List ℕ → List ℕ → List ℕ → ℕ → ℕ → Response
 singleIn own limit i ps js works ucb ecb brt m = leastIn own limit i ps js (weightsIn works ucb ecb brt i m)

@@ -8,12 +8,12 @@ use units::Ticks;
 ghost use mathlib.Core.Path.{_≡_};
 ghost use mathlib.Core.List.{map};
 ghost use Prim.Native.Nat.{_≤_};
-ghost use lib.ListN.{length, take};
-ghost use Rattle.response.specs.Positions.{hp};
+ghost use lib.ListN.{length};
 ghost use Rattle.response.specs.Flat.{flat};
 ghost use Rattle.response.specs.Counts.{Started};
 ghost use Rattle.table.specs.Accepted.{AcceptedTable};
-ghost use Rattle.analysis.specs.Analysis.{withCombined, responseOf, methods, cell, rowOf, Asked};
+ghost use Rattle.costs.specs.Lent.{front};
+ghost use Rattle.analysis.specs.Analysis.{withCombined, responseOf, methods, cell, noRow, rowsOf, Asked};
 ghost use Rattle.analysis.specs.Lists.{Numbers, Sets, singleIn, TaskHanded, rowIn, RowsHanded, rowAt, answerIn, cheaper, RowHanded};
 
 // T, J, C, C + B and D - J of the first `n` tasks.
@@ -282,7 +282,7 @@ fn rows(
     count: usize,
 ) -> [Row; 32]
     requires { ⌜ RowsHanded (now owns) (now limits) (now periods) (now jitters) (now works) (now ucb) (now ecb) (brt .0) count ⌝ }
-    ensures { λ r. ⌜ take count r ≡ map (rowIn (now (owns .entry)) (now (limits .entry)) (now (periods .entry)) (now (jitters .entry)) (now (works .entry)) (now (ucb .entry)) (now (ecb .entry)) (brt .0)) (hp count) ⌝ }
+    ensures { λ r. ⌜ r ≡ front noRow (rowIn (now (owns .entry)) (now (limits .entry)) (now (periods .entry)) (now (jitters .entry)) (now (works .entry)) (now (ucb .entry)) (now (ecb .entry)) (brt .0)) count ⌝ }
 {
     let mut above = [0u64; 128];
     let mut evicting = [0u64; 32];
@@ -325,7 +325,7 @@ fn rows(
 // The responses of every task of a table under every method.
 pub fn responses(table: Table) -> [Row; 32]
     requires { ⌜ AcceptedTable table ⌝ }
-    ensures { λ r. ⌜ take (table .count) r ≡ map (rowOf table) (hp (table .count)) ⌝ }
+    ensures { λ r. ⌜ r ≡ rowsOf table ⌝ }
 {
     let count = table.count;
     let mut periods = [0u64; 32];

@@ -22,6 +22,6 @@ reloadsIn ucb ecb = reloadsOf (setAt ucb) (setAt ecb)
 abbrev pub weightIn : List ℕ → ℕ → List ℕ → List ℕ → ℕ → ℕ → ℕ → ℕ
 weightIn works brt ucb ecb = weightOf (λ k. getD works k 0) brt (setAt ucb) (setAt ecb)
 
--- a list of 32 numbers: those of f at the positions below i, and zeros
-unfoldable pub front : (ℕ → ℕ) → ℕ → List ℕ
-front f i = map f (hp i) ++ replicate (32 - i) 0
+-- a list of 32: what f has at the positions below i, and z
+unfoldable pub front : {A : Type 0} → A → (ℕ → A) → ℕ → List A
+front z f i = map f (hp i) ++ replicate (32 - i) z

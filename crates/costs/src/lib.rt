@@ -91,7 +91,7 @@ pub fn weights(
     i: usize,
 ) -> [u64; 32]
     requires { ⌜ (method ≤ 4) × Lent (now works) (now ucb) (now ecb) (brt .0) (i + 1) ⌝ }
-    ensures { λ r. ⌜ r ≡ front (weightIn (now (works .entry)) (brt .0) (now (ucb .entry)) (now (ecb .entry)) method i) i ⌝ }
+    ensures { λ r. ⌜ r ≡ front 0 (weightIn (now (works .entry)) (brt .0) (now (ucb .entry)) (now (ecb .entry)) method i) i ⌝ }
 {
     let mut all = [0u64; 32];
     for j in 0..i {

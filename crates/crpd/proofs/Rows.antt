@@ -2,22 +2,20 @@
 -- Assumes nothing.
 use Prim.Native.Nat.{ℕ, zero, suc, _≤_, _<_}
 use native.Mathlib.Omega.{arith}
-use mathlib.Core.Path.{_≡_, refl, sym, ap, _∙_}
+use mathlib.Core.Path.{_≡_, refl, ap, _∙_}
 use mathlib.Core.Bool.{Bool, true, false, cond}
-use mathlib.Core.List.{List, map}
+use mathlib.Core.List.{List}
 use lib.Dec.{eqb}
-use lib.ListN.{take, getD}
-use lib.Seq.{getD-take}
+use lib.ListN.{getD}
 use Rattle.response.specs.declared.Response.{Response}
 use Rattle.response.specs.declared.Response.the-variants.{Within, Unschedulable}
 use Rattle.response.specs.declared.Row.{Row}
-use Rattle.response.specs.Positions.{hp}
 use Rattle.response.specs.Least.{leastOf, LeastWithin, sooner}
 use Rattle.response.proofs.LeastLaws.{leastOf-least}
-use Rattle.response.proofs.PositionLaws.{map-at}
 use Rattle.table.specs.declared.Table.{Table}
 use Rattle.table.specs.Accepted.{AcceptedTable}
-use Rattle.analysis.specs.Analysis.{limitOf, answerOf, responseOf, rowOf}
+use Rattle.costs.proofs.LentLaws.{front-at}
+use Rattle.analysis.specs.Analysis.{limitOf, answerOf, responseOf, rowOf, rowsOf}
 use Rattle.report.specs.Rows.{noRow, answerIn, answersIn, InRange, Reportable}
 use Rattle.report.specs.Report.{reportOf}
 use Rattle.report.proofs.Agree.{report-agrees}
@@ -64,10 +62,9 @@ cell-at table i (suc (suc (suc (suc zero)))) h = refl
 cell-at table i (suc (suc (suc (suc (suc zero))))) h = refl
 cell-at table i (suc (suc (suc (suc (suc (suc m)))))) h = absurd (omega arith)
 
-module _ (table : Table) (rows : List Row) (e : take (table .count) rows ≡ map (rowOf table) (hp (table .count))) where
+module _ (table : Table) (rows : List Row) (e : rows ≡ rowsOf table) where
   row-at : (i : ℕ) → i < table .count → getD rows i noRow ≡ rowOf table i
-  row-at i h =
-      sym (getD-take (table .count) rows i noRow h) ∙ ap (λ (xs : List Row). getD xs i noRow) e ∙ map-at (rowOf table) (table .count) i noRow h
+  row-at i h = ap (λ (xs : List Row). getD xs i noRow) e ∙ front-at _ (rowOf table) (table .count) i noRow h
 
   pub rows-hold : (m i : ℕ) → m < 6 → i < table .count → answersIn rows m i ≡ responseOf table m i
   rows-hold m i h l = ap (λ (row : Row). answerIn row m) (row-at i l) ∙ cell-at table i m h

@@ -4,9 +4,9 @@
 use mathlib.Core.Path.{_≡_, refl}
 use mathlib.Core.List.{List, [], _∷_}
 use Prim.Native.Nat.{ℕ}
-use Rattle.text.specs.Bytes.{all, same}
+use Rattle.fields.specs.Bytes.{all, same}
 use Rattle.text.specs.Cut.{upTo, after, count, pastTabs, field, lines}
-use Rattle.text.specs.Fields.{digitsFrom, readNumber, hasShape, isName}
+use Rattle.fields.specs.Fields.{digitsFrom, readNumber, hasShape, isName}
 use Rattle.sets.specs.Field.{hexDigit, readHex, readSet}
 use Rattle.sets.specs.Sets.{∅, _∪_, _∩_, count as counted, size}
 use Rattle.sets.specs.Words.{number, members, wordsOf}

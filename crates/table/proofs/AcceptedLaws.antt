@@ -10,7 +10,7 @@ use native.Mathlib.Omega.{arith}
 use borrow.Author.Tests.{eqb-false, eq-eqb}
 use lib.ListN.{length, getD, set, length-set, length-replicate}
 use lib.Seq.{getD-take, getD-set-same, getD-set-other, length-take-le}
-use Rattle.text.specs.Bytes.{same}
+use Rattle.fields.specs.Bytes.{same}
 use Rattle.text.specs.Cut.{lines}
 use Rattle.table.specs.declared.Name.{Name}
 use Rattle.table.specs.declared.Task.{Task}

@@ -8,7 +8,7 @@ use native.Mathlib.Numerals.{add-one}
 use native.Mathlib.Omega.{arith}
 use lib.ListN.{length, getD, take, drop, length-take, length-map, drop-of-length-le}
 use lib.Seq.{drop-cons, getD-take}
-use Rattle.text.specs.Bytes.{same}
+use Rattle.fields.specs.Bytes.{same}
 use Rattle.table.specs.declared.Name.{Name}
 use Rattle.table.specs.Faults.{knows}
 

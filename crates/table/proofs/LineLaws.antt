@@ -8,7 +8,7 @@ use lib.Dec.{ltb, leb, eqb}
 use lib.ListN.{length}
 use borrow.Author.Tests.{ltb-true, leb-true, leb-false, eqb-true, not-false}
 use Rattle.text.specs.Cut.{field}
-use Rattle.text.specs.Fields.{isName}
+use Rattle.fields.specs.Fields.{isName}
 use Rattle.sets.specs.declared.SetField.{SetField}
 use Rattle.sets.specs.declared.SetField.the-variants.{Set, Bad}
 use Rattle.sets.specs.Words.{members}

@@ -11,9 +11,9 @@ use borrow.Author.Tests.{ne-eqb, leb-true}
 use lib.Dec.{leb}
 use lib.ListN.{length, getD, take, drop, set, replicate, drop-of-length-le}
 use lib.Seq.{length-take-le, take-suc, take-all, drop-cons, set-at, append-snoc}
-use Rattle.text.specs.Bytes.{all, isNameByte}
+use Rattle.fields.specs.Bytes.{all, isNameByte}
 use Rattle.text.specs.Cut.{upTo}
-use Rattle.text.specs.Fields.{isName}
+use Rattle.fields.specs.Fields.{isName}
 use Rattle.table.specs.Tasks.{packName, nameOf}
 
 abbrev zeros : List ℕ

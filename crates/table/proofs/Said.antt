@@ -4,8 +4,8 @@ use Prim.Native.Nat.{ℕ}
 use mathlib.Core.Path.{_≡_, ap, _∙_}
 use mathlib.Core.Bool.{Bool, _&&_}
 use mathlib.Core.List.{List}
-use Rattle.text.specs.declared.NumberField.{NumberField}
-use Rattle.text.specs.Fields.{readNumber, isValue, valueOf, isNumber, number, isName}
+use Rattle.fields.specs.declared.NumberField.{NumberField}
+use Rattle.fields.specs.Fields.{readNumber, isValue, valueOf, isNumber, number, isName}
 use Rattle.sets.specs.declared.CacheSet.{CacheSet}
 use Rattle.sets.specs.declared.SetField.{SetField}
 use Rattle.sets.specs.Field.{readSet}

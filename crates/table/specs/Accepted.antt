@@ -3,7 +3,7 @@
 use Prim.Native.Nat.{ℕ, _%_, _≤_, _<_}
 use mathlib.Core.Bool.{true}
 use mathlib.Core.Path.{_≡_}
-use Rattle.text.specs.Fields.{isName}
+use Rattle.fields.specs.Fields.{isName}
 use Rattle.sets.specs.Sets.{Set}
 use Rattle.sets.specs.Words.{members}
 use Rattle.table.specs.declared.Task.{Task}

@@ -6,7 +6,7 @@ use mathlib.Core.List.{List, [], _∷_}
 use mathlib.Core.Bool.{Bool, false, cond, not, _&&_, _||_}
 use lib.Dec.{ltb, leb, eqb}
 use lib.ListN.{length, getD}
-use Rattle.text.specs.Bytes.{same}
+use Rattle.fields.specs.Bytes.{same}
 use Rattle.table.specs.declared.Name.{Name}
 use Rattle.table.specs.declared.Task.{Task}
 use Rattle.table.specs.declared.HeadLine.{HeadLine}

@@ -4,7 +4,7 @@ use Prim.Native.Nat.{ℕ}
 use mathlib.Core.List.{List}
 use mathlib.Core.Bool.{Bool, true, false, _&&_}
 use Rattle.text.specs.Cut.{field}
-use Rattle.text.specs.Fields.{isNumber, number, hasShape, isName}
+use Rattle.fields.specs.Fields.{isNumber, number, hasShape, isName}
 use Rattle.sets.specs.declared.CacheSet.{CacheSet}
 use Rattle.sets.specs.declared.SetField.{SetField}
 use Rattle.sets.specs.declared.SetField.the-variants.{Set, Bad}

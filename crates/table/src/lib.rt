@@ -6,7 +6,7 @@ use units::Ticks;
 ghost use mathlib.Core.Path.{_≡_};
 ghost use Prim.Native.Nat.{_<_, _≤_};
 ghost use lib.ListN.{length, take};
-ghost use Rattle.text.specs.Bytes.{same};
+ghost use Rattle.fields.specs.Bytes.{same};
 ghost use Rattle.text.specs.Cut.{lines};
 ghost use Rattle.table.specs.Tasks.{packName, newTable};
 ghost use Rattle.table.specs.Said.{headSaid, isSet, setOf, fieldsSaid, taskSaid};
@@ -93,14 +93,14 @@ fn head_said(line: &[u8]) -> HeadLine
     let sets_field = text::before(from_sets, b'\t');
     let from_brt = text::past(from_sets, b'\t', sets_field);
     let brt_field = text::before(from_brt, b'\t');
-    let sets = text::number(sets_field);
-    let brt = text::number(brt_field);
+    let sets = fields::number(sets_field);
+    let brt = fields::number(brt_field);
     HeadLine {
-        shaped: text::is_letter(letter, b'K')
+        shaped: fields::is_letter(letter, b'K')
             & (text::goes_on(from_sets, sets_field) & !text::goes_on(from_brt, brt_field)),
-        numbered: text::is_value(sets) & text::is_value(brt),
-        sets: text::value_of(sets),
-        brt: text::value_of(brt),
+        numbered: fields::is_value(sets) & fields::is_value(brt),
+        sets: fields::value_of(sets),
+        brt: fields::value_of(brt),
     }
 }
 
@@ -175,33 +175,33 @@ fn fields_said(
 ) -> TaskLine
     ensures { λ r. ⌜ r ≡ fieldsSaid sets shaped (now (name .entry)) (now (work .entry)) (now (period .entry)) (now (deadline .entry)) (now (jitter .entry)) (now (blocking .entry)) (now (ucb .entry)) (now (ecb .entry)) ⌝ }
 {
-    let named = text::is_name(name);
+    let named = fields::is_name(name);
     let name = pack_name(name);
-    let work = text::number(work);
-    let period = text::number(period);
-    let deadline = text::number(deadline);
-    let jitter = text::number(jitter);
-    let blocking = text::number(blocking);
+    let work = fields::number(work);
+    let period = fields::number(period);
+    let deadline = fields::number(deadline);
+    let jitter = fields::number(jitter);
+    let blocking = fields::number(blocking);
     let ucb = CacheSet::from_field(ucb, sets);
     let ecb = CacheSet::from_field(ecb, sets);
     let task = Task {
         name,
-        work: Ticks(text::value_of(work)),
-        period: Ticks(text::value_of(period)),
-        deadline: Ticks(text::value_of(deadline)),
-        jitter: Ticks(text::value_of(jitter)),
-        blocking: Ticks(text::value_of(blocking)),
+        work: Ticks(fields::value_of(work)),
+        period: Ticks(fields::value_of(period)),
+        deadline: Ticks(fields::value_of(deadline)),
+        jitter: Ticks(fields::value_of(jitter)),
+        blocking: Ticks(fields::value_of(blocking)),
         ucb: set_of(ucb),
         ecb: set_of(ecb),
     };
     TaskLine {
         shaped,
         named,
-        numbered: text::is_value(work)
-            & text::is_value(period)
-            & text::is_value(deadline)
-            & text::is_value(jitter)
-            & text::is_value(blocking),
+        numbered: fields::is_value(work)
+            & fields::is_value(period)
+            & fields::is_value(deadline)
+            & fields::is_value(jitter)
+            & fields::is_value(blocking),
         marked: is_set(ucb) & is_set(ecb),
         task,
     }
@@ -228,7 +228,7 @@ fn task_said(sets: u64, line: &[u8]) -> TaskLine
     let ucb = text::before(from_ucb, b'\t');
     let from_ecb = text::past(from_ucb, b'\t', ucb);
     let ecb = text::before(from_ecb, b'\t');
-    let shaped = text::is_letter(letter, b'T')
+    let shaped = fields::is_letter(letter, b'T')
         & (text::goes_on(from_ucb, ucb) & !text::goes_on(from_ecb, ecb));
     fields_said(
         sets,
@@ -265,7 +265,7 @@ fn same_name(a: Name, b: Name) -> bool
 {
     let x = a.bytes;
     let y = b.bytes;
-    text::same_bytes(&x, &y)
+    fields::same_bytes(&x, &y)
 }
 
 // Whether the name is one of the first `count` of these.

@@ -11,13 +11,13 @@ use Rattle.costs.proofs.weights.Statement.{statement}
 use Rattle.costs.proofs.weights.Tie as tie
 
 abbrev Inv-loop : tie.InvT-loop
-Inv-loop works ucb ecb brt method i all₀ j₀ all j = (j ≤ i) × (all ≡ front (weightIn works (brt .0) ucb ecb method i) j)
+Inv-loop works ucb ecb brt method i all₀ j₀ all j = (j ≤ i) × (all ≡ front 0 (weightIn works (brt .0) ucb ecb method i) j)
 
 abbrev μ-loop : tie.MeasureT-loop
 μ-loop works ucb ecb brt method i all₀ j₀ all j = i - j
 
 loop-holds : tie.Need-loop-holds Inv-loop μ-loop
-loop-holds c = (omega arith, front-none _)
+loop-holds c = (omega arith, front-none 0 _)
 
 weight-requires : tie.Need-weight-requires Inv-loop μ-loop
 weight-requires c κs =
@@ -36,7 +36,7 @@ loop-again c =
     let a = s .args in
     let few = s .pre .1 .few in (
       omega arith,
-      rw (h .loop .inv .1) (front-next (weightIn (a .works .now) (a .brt .0) (a .ucb .now) (a .ecb .now) (a .method) (a .i)) (h .loop .j) _ (omega arith)
+      rw (h .loop .inv .1) (front-next 0 (weightIn (a .works .now) (a .brt .0) (a .ucb .now) (a .ecb .now) (a .method) (a .i)) (h .loop .j) _ (omega arith)
           (c .weight .ensures ∙ ap (λ (n : ℕ). getD (a .works .now) (h .loop .j) 0 + a .brt .0 * n) (c .before .reloads .ensures))),
     )
 

@@ -3,7 +3,7 @@
 use borrow.Author.Needs.{needs}
 use denote.Ref.{now}
 use Rattle.text.specs.Cut.{pastTabs, field}
-use Rattle.text.specs.Fields.{hasShape}
+use Rattle.fields.specs.Fields.{hasShape}
 use Rattle.text.proofs.Shape.{fields-are}
 use Rattle.table.specs.Said.{headSaid}
 use Rattle.table.proofs.head_said.Statement.{statement}

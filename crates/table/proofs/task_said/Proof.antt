@@ -4,7 +4,7 @@ use borrow.Author.Needs.{needs}
 use mathlib.Core.Path.{_∙_}
 use denote.Ref.{now}
 use Rattle.text.specs.Cut.{pastTabs, field}
-use Rattle.text.specs.Fields.{hasShape}
+use Rattle.fields.specs.Fields.{hasShape}
 use Rattle.text.proofs.Shape.{fields-are}
 use Rattle.table.specs.Said.{taskSaid}
 use Rattle.table.proofs.task_said.Statement.{statement}

@@ -5,10 +5,10 @@ use mathlib.Core.List.{List, [], _∷_}
 use mathlib.Core.Bool.{Bool, true, false, cond, not, _&&_, _||_}
 use lib.ListN.{length, getD}
 use lib.Dec.{leb, eqb}
-use Rattle.text.specs.declared.NumberField.{NumberField}
-use Rattle.text.specs.declared.NumberField.the-variants.{Value, Bad}
+use Rattle.fields.specs.declared.NumberField.{NumberField}
+use Rattle.fields.specs.declared.NumberField.the-variants.{Value, Bad}
 use Rattle.text.specs.Cut.{field, fieldCount}
-use Rattle.text.specs.Bytes.{all, isDigit, isNameByte}
+use Rattle.fields.specs.Bytes.{all, isDigit, isNameByte}
 
 -- decimal digits, most significant first, after digits that say v
 unfoldable pub digitsFrom : ℕ → List ℕ → NumberField

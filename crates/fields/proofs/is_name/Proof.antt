@@ -1,9 +1,9 @@
--- `text::is_name` meets its contract.
+-- `fields::is_name` meets its contract.
 -- Assumes nothing.
-use Rattle.text.specs.Fields.{isName}
+use Rattle.fields.specs.Fields.{isName}
 use borrow.Author.Needs.{needs}
-use Rattle.text.proofs.is_name.Statement.{statement}
-use Rattle.text.proofs.is_name.Tie as tie
+use Rattle.fields.proofs.is_name.Statement.{statement}
+use Rattle.fields.proofs.is_name.Tie as tie
 
 all-name-bytes-requires : tie.Need-all-name-bytes-requires
 all-name-bytes-requires c κs = search needs

@@ -1,4 +1,4 @@
--- `text::all_name_bytes` meets its contract. The loop's invariant: the bytes from `i` on are all a name's just if the whole field's are.
+-- `fields::all_name_bytes` meets its contract. The loop's invariant: the bytes from `i` on are all a name's just if the whole field's are.
 -- Assumes nothing.
 use Prim.Native.Nat.{_≤_, _-_}
 use mathlib.Core.Path.{_≡_, refl, sym, _∙_}
@@ -7,10 +7,10 @@ use borrow.Author.Needs.{needs}
 use lib.ListN.{length, drop}
 use borrow.Author.Tests.{not-true, not-false}
 use denote.Ref.{now}
-use Rattle.text.specs.Bytes.{all, isNameByte}
-use Rattle.text.proofs.Scan.{all-step, all-stop, all-end}
-use Rattle.text.proofs.all_name_bytes.Statement.{statement}
-use Rattle.text.proofs.all_name_bytes.Tie as tie
+use Rattle.fields.specs.Bytes.{all, isNameByte}
+use Rattle.fields.proofs.Scan.{all-step, all-stop, all-end}
+use Rattle.fields.proofs.all_name_bytes.Statement.{statement}
+use Rattle.fields.proofs.all_name_bytes.Tie as tie
 
 abbrev Inv-loop : tie.InvT-loop
 Inv-loop f i₀ i = (i ≤ length f) × (all isNameByte (drop i f) ≡ all isNameByte f)

@@ -1,8 +1,8 @@
--- `text::is_name_byte` meets its contract: `is_digit` gives the flag of a digit.
+-- `fields::is_name_byte` meets its contract: `is_digit` gives the flag of a digit.
 -- Assumes nothing.
 use borrow.Author.Needs.{needs}
-use Rattle.text.proofs.is_name_byte.Statement.{statement}
-use Rattle.text.proofs.is_name_byte.Tie as tie
+use Rattle.fields.proofs.is_name_byte.Statement.{statement}
+use Rattle.fields.proofs.is_name_byte.Tie as tie
 
 is-digit-requires : tie.Need-is-digit-requires
 is-digit-requires c κs = search needs
