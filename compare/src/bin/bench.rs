@@ -167,103 +167,78 @@ fn time_both(what: &str, texts: &[Vec<u8>], options: &Options, one: Work, other:
     );
 }
 
-/// The shortest of some measurements.
-fn fastest(options: &Options, mut seconds: impl FnMut(Duration) -> f64) -> f64 {
-    let rounds = (0..ROUNDS).map(|_| seconds(options.time / ROUNDS));
-    rounds.fold(f64::INFINITY, f64::min)
-}
-
-/// How many texts are done in a second.
+/// How many texts are done in a second. The work on all of them is repeated until `time` is over.
 fn rate(texts: &[Vec<u8>], time: Duration, work: Work) -> f64 {
-    1.0 / seconds_each(texts, time, |text| work(text))
-}
-
-/// The work on all items is repeated until `time` is over.
-fn seconds_each<T>(items: &[T], time: Duration, mut work: impl FnMut(&T) -> u64) -> f64 {
     let start = processor_time();
     let mut done = 0u64;
     let mut sum = 0u64;
     while done == 0 || processor_time() - start < time {
-        for item in items {
-            sum = sum.wrapping_add(work(item));
+        for text in texts {
+            sum = sum.wrapping_add(work(text));
         }
-        done += items.len() as u64;
+        done += texts.len() as u64;
     }
     let seconds = (processor_time() - start).as_secs_f64();
     assert_ne!(sum, 1, "no work gives this");
-    seconds / done as f64
+    done as f64 / seconds
 }
 
 // ---- reading, answering and writing apart
 
-struct Parts {
-    read: f64,
-    answer: f64,
-    write: f64,
-}
+/// Reading, reading and answering, and all three.
+type Stages = [Box<dyn FnMut(&[u8]) -> u64>; 3];
 
-impl Parts {
-    fn tell(&self, whose: &str) {
-        let micros = |seconds: f64| seconds * 1e6;
+fn time_parts(texts: &[Vec<u8>], options: &Options) {
+    let mut coded: Vec<(&str, Stages)> = vec![("plain", plain_stages())];
+    match library_stages() {
+        Some(stages) => coded.insert(0, (library::NAME, stages)),
+        None => println!("  {:<15} has no parts to time", library::NAME),
+    }
+    let mut fastest = vec![[f64::INFINITY; 3]; coded.len()];
+    for _ in 0..ROUNDS {
+        for ((_, stages), fastest) in coded.iter_mut().zip(&mut fastest) {
+            for (stage, fastest) in stages.iter_mut().zip(fastest) {
+                let seconds = 1.0 / rate(texts, options.time / ROUNDS, stage);
+                *fastest = fastest.min(seconds);
+            }
+        }
+    }
+    for ((whose, _), [read, answered, written]) in coded.iter().zip(&fastest) {
         println!(
             "  {whose:<15} {:.2} us reading, {:.2} us answering, {:.2} us writing",
-            micros(self.read),
-            micros(self.answer),
-            micros(self.write)
+            read * 1e6,
+            (answered - read) * 1e6,
+            (written - answered) * 1e6
         );
     }
 }
 
-fn time_parts(texts: &[Vec<u8>], options: &Options) {
-    match library_parts(texts, options) {
-        Some(parts) => parts.tell(library::NAME),
-        None => println!("  {:<15} exports no parts to time", library::NAME),
-    }
-    plain_parts(texts, options).tell("plain");
-}
-
 #[cfg(feature = "parts")]
-fn library_parts(texts: &[Vec<u8>], options: &Options) -> Option<Parts> {
+fn library_stages() -> Option<Stages> {
     use library::parts;
-    const TIMES: u64 = 1;
-    let each = |work: Work| fastest(options, |time| 1.0 / rate(texts, time, work));
-    let read = each(&mut parts::read);
-    let answered = each(&mut |text| parts::answers(text, TIMES));
-    let answer = (answered - read) / TIMES as f64;
     let mut out = ROOM;
-    let written = each(&mut |text| parts::write(text, TIMES, &mut out));
-    let write = (written - read - answer) / TIMES as f64;
-    Some(Parts {
-        read,
-        answer,
-        write,
-    })
+    Some([
+        Box::new(parts::read),
+        Box::new(|text| parts::answers(text, 1)),
+        Box::new(move |text| parts::write(text, 1, &mut out)),
+    ])
 }
 
 #[cfg(not(feature = "parts"))]
-fn library_parts(_texts: &[Vec<u8>], _options: &Options) -> Option<Parts> {
+fn library_stages() -> Option<Stages> {
     None
 }
 
-fn plain_parts(texts: &[Vec<u8>], options: &Options) -> Parts {
-    let mut read = |text: &[u8]| plain::read(text).map_or(0, |table| table.tasks() as u64);
-    let tables = texts.iter().filter_map(|text| plain::read(text).ok());
-    let tables: Vec<plain::Table> = tables.collect();
-    let answer = |table: &plain::Table| plain::answers(table, &mut Turns::unbounded());
-    let answers: Vec<plain::Answers> = tables.iter().map(answer).collect();
-    let answered: Vec<_> = tables.iter().zip(&answers).collect();
+fn plain_stages() -> Stages {
     let mut out = ROOM;
-    Parts {
-        read: fastest(options, |time| 1.0 / rate(texts, time, &mut read)),
-        answer: fastest(options, |time| {
-            seconds_each(&tables, time, |table| answer(table)[0][0])
+    [
+        Box::new(|text| plain::read(text).map_or(0, |table| table.tasks() as u64)),
+        Box::new(|text| {
+            let answers = |table| plain::answers(&table, &mut Turns::unbounded())[0][0];
+            plain::read(text).map_or(0, answers)
         }),
-        write: fastest(options, |time| {
-            seconds_each(&answered, time, |(table, answers)| {
-                plain::write(table, answers, &mut out)
-            })
-        }),
-    }
+        Box::new(move |text| plain::report(text, &mut out)),
+    ]
 }
 
 // ---- bad tables
