@@ -78,6 +78,7 @@ answerIn own limit i ps js ws m = leastIn own limit i ps js (rowAt ws m)
 abbrev pub cheaper : ℕ → ℕ
 cheaper m = getD (0 ∷ 3 ∷ 4 ∷ 0 ∷ 0 ∷ []) m 0
 
+-- what the answers by such a list are to be handed
 pub record RowHanded (own limit i : ℕ) (ps js ws : List ℕ) : Type 0 where
   pub long : length ws ≡ 160
   pub handed : (m : ℕ) → m ≤ 4 → Handed own ps js (rowAt ws m) i limit

@@ -150,7 +150,7 @@ pub fn respond(table: Table, method: u64, i: usize) -> Response
     )
 }
 
-// The answer for the task at i under one of the methods 0 to 4, by the weights of its row. No solution is below `counts`.
+// The answer for the task at i under one of the methods 0 to 4, by the weights of its row. No solution has fewer activations than `counts`.
 fn by_row(
     own: Ticks,
     limit: Ticks,

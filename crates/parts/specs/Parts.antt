@@ -36,11 +36,11 @@ abbrev pub ticksOf : Response → ℕ
 ticksOf (Within time) = time .0
 ticksOf Unschedulable = 0
 
-abbrev pub firstOf : Table → ℕ
-firstOf table = ticksOf (responseOf table 0 0)
+abbrev pub firstTicks : Table → ℕ
+firstTicks table = ticksOf (responseOf table 0 0)
 
 abbrev pub answered : List ℕ → ℕ → ℕ
-answered text times = unlessRefused (readText text .verdict) 0 (turns times 0 (firstOf (readText text .table)))
+answered text times = unlessRefused (readText text .verdict) 0 (turns times 0 (firstTicks (readText text .table)))
 
 -- ---- the report: its length, 0 where it does not fit, and the buffer
 

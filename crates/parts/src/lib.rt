@@ -5,7 +5,7 @@ use table::Table;
 use table::Verdict;
 ghost use mathlib.Core.Path.{_≡_};
 ghost use Rattle.table.specs.Accepted.{AcceptedTable};
-ghost use Rattle.parts.specs.Parts.{turns, tasksIn, ticksOf, firstOf, answered, lengthOf, Rewritten, lengthAfter, bufferAfter};
+ghost use Rattle.parts.specs.Parts.{turns, tasksIn, ticksOf, firstTicks, answered, lengthOf, Rewritten, lengthAfter, bufferAfter};
 
 fn ticks(response: Response) -> u64
     ensures { λ r. ⌜ r ≡ ticksOf response ⌝ }
@@ -27,7 +27,7 @@ fn written_len(written: Written) -> u64
 
 fn answer(table: Table, times: u64) -> u64
     requires { ⌜ AcceptedTable table ⌝ }
-    ensures { λ r. ⌜ r ≡ turns times 0 (firstOf table) ⌝ }
+    ensures { λ r. ⌜ r ≡ turns times 0 (firstTicks table) ⌝ }
 {
     let mut first = 0;
     for _ in 0..times {

@@ -6,12 +6,12 @@ use native.Mathlib.Numerals.{add-one}
 use native.Mathlib.Omega.{arith}
 use borrow.Author.Needs.{needs}
 use Rattle.crpd.proofs.Rows.{rows-hold}
-use Rattle.parts.specs.Parts.{turns, ticksOf, firstOf}
+use Rattle.parts.specs.Parts.{turns, ticksOf, firstTicks}
 use Rattle.parts.proofs.answer.Statement.{statement}
 use Rattle.parts.proofs.answer.Tie as tie
 
 abbrev Inv-loop : tie.InvT-loop
-Inv-loop table times first₀ counter₀ first counter = (counter ≤ times) × (first ≡ turns counter 0 (firstOf table))
+Inv-loop table times first₀ counter₀ first counter = (counter ≤ times) × (first ≡ turns counter 0 (firstTicks table))
 
 abbrev μ-loop : tie.MeasureT-loop
 μ-loop table times first₀ counter₀ first counter = times - counter
