@@ -3,27 +3,26 @@ use Prim.Native.Nat.{ℕ, _+_, _*_, _≤_, _<_}
 use native.Mathlib.Omega.{arith}
 use mathlib.Core.Path.{_≡_, refl, ap, ap₂, _∙_}
 use mathlib.Core.Bool.{Bool, true, false, cond}
-use mathlib.Core.List.{List, map}
+use mathlib.Core.List.{List}
 use lib.Dec.{eqb}
 use lib.ListN.{length, getD}
 use borrow.Author.Tests.{eq-eqb, ne-eqb, eqb-false}
 use Rattle.sets.specs.Words.{members}
 use Rattle.sets.specs.Stored.{setAt}
-use Rattle.response.specs.declared.Response.{Response}
-use Rattle.response.specs.declared.Cell.{Cell}
-use Rattle.response.specs.Demand.{demandOf}
-use Rattle.response.specs.Flat.{flat, Handed}
-use Rattle.response.specs.Least.{leastOf, LeastWithin, sooner}
-use Rattle.response.proofs.LeastLaws.{leastOf-least}
-use Rattle.response.proofs.DemandLaws.{demand-same}
+use Rattle.demand.specs.declared.Response.{Response}
+use Rattle.demand.specs.Demand.{demandOf}
+use Rattle.demand.specs.Flat.{flat, Handed}
+use Rattle.demand.specs.Least.{leastOf, LeastWithin, sooner}
+use Rattle.demand.proofs.LeastLaws.{leastOf-least}
+use Rattle.demand.proofs.DemandLaws.{demand-same}
 use Rattle.table.specs.declared.Table.{Table}
 use Rattle.table.specs.Accepted.{AcceptedTable}
 use Rattle.costs.specs.Costs.{ucb, ecb, reloadsOf, termAt}
-use Rattle.costs.specs.Lent.{Lent, weightIn, front}
-use Rattle.costs.proofs.LentLaws.{front-at, front-long, front-same}
+use Rattle.costs.specs.Lent.{Lent, weightIn}
+use Rattle.demand.proofs.FrontLaws.{front-at, front-long}
 use Rattle.costs.proofs.OrderLaws.{reloads-same, term-ranged}
-use Rattle.analysis.specs.Analysis.{ownOf, limitOf, answerOf, withCombined, responseOf, methods, cell, rowOf, noRow, rowsOf}
-use Rattle.analysis.specs.Lists.{Numbers, Sets, leastIn, weightsIn, singleIn, TaskHanded, rowIn, RowsHanded}
+use Rattle.analysis.specs.Analysis.{ownOf, limitOf, answerOf, withCombined, responseOf}
+use Rattle.analysis.specs.Lists.{Numbers, Sets, leastIn, weightsIn, singleIn, TaskHanded}
 
 -- what an answer means
 pub answer-means : (table : Table) (m i : ℕ) → LeastWithin (demandOf (ownOf table i) (termAt table m i) i) (limitOf table i) (answerOf table m i)
@@ -47,16 +46,6 @@ combined-same A B m h p = go (eqb m 5) refl
       where
         below : (m ≡ 5 → ⊥) → m ≤ 4
         below n = omega arith
-
-pub cells-same : (A B : ℕ → Response) → ((m : ℕ) → m ≤ 4 → A m ≡ B m)
-    → map (λ m. cell (withCombined A m)) methods ≡ map (λ m. cell (withCombined B m)) methods
-cells-same A B p =
-    let a = p 0 (omega arith) in
-    let b = p 1 (omega arith) in
-    let c = p 2 (omega arith) in
-    let d = p 3 (omega arith) in
-    let e = p 4 (omega arith) in
-    cc
 
 -- ---- the answer by lists
 
@@ -141,7 +130,7 @@ module _ (table : Table) (accepted : AcceptedTable table) (n i : ℕ) (here : i 
           handed = λ m h. handed-by m _ (weights-are m) (omega (arith, front-long 0 (weightIn ws (table .brt .0) us es m i) i (omega arith)));
         }
 
-    single-is : (m : ℕ) → singleIn (getD os i 0) (getD ls i 0) i ps js ws us es (table .brt .0) m ≡ answerOf table m i
+    pub single-is : (m : ℕ) → singleIn (getD os i 0) (getD ls i 0) i ps js ws us es (table .brt .0) m ≡ answerOf table m i
     single-is m = least-by m _ (weights-are m)
 
     pub response-is : (m : ℕ) → m ≤ 5
@@ -149,26 +138,3 @@ module _ (table : Table) (accepted : AcceptedTable table) (n i : ℕ) (here : i 
     unfolding responseOf
     response-is m h =
         combined-same (singleIn (getD os i 0) (getD ls i 0) i ps js ws us es (table .brt .0)) (λ k. answerOf table k i) m h (λ k l. single-is k)
-
--- ---- all tasks
-
-module _ (table : Table) (accepted : AcceptedTable table) (ps js ws os ls : List ℕ) (numbers : Numbers table (table .count) ps js ws os ls)
-    (us es : List ℕ) (sets : Sets table (table .count) us es) where
-  pub rows-handed : RowsHanded os ls ps js ws us es (table .brt .0) (table .count)
-  rows-handed =
-      let few = accepted .few in
-      record {
-        few = few;
-        owns-long = omega (arith, numbers .own .long);
-        limits-long = omega (arith, numbers .limit .long);
-        ecb-long = omega (arith, sets .ecb-long);
-        rows = λ i l. task-handed table accepted (table .count) i l (omega arith) ps js ws os ls numbers us es sets;
-      }
-
-  pub rows-same : front noRow (rowIn os ls ps js ws us es (table .brt .0)) (table .count) ≡ rowsOf table
-  unfolding responseOf
-  rows-same =
-      front-same noRow _ (rowOf table) (table .count)
-      (λ i l. ap (λ (cs : List Cell). record { cells = cs })
-      (cells-same (singleIn (getD os i 0) (getD ls i 0) i ps js ws us es (table .brt .0)) (λ m. answerOf table m i)
-      (λ m h. single-is table accepted (table .count) i l (omega arith) ps js ws os ls numbers us es sets m)))

@@ -3,10 +3,10 @@ use mathlib.Core.Path.{_≡_, refl}
 use mathlib.Core.List.{map}
 use Rattle.sets.specs.Sets.{∅, _∪_, _∩_, count, size}
 use Rattle.sets.specs.Words.{number, members}
-use Rattle.response.specs.declared.Response.{Response}
-use Rattle.response.specs.Positions.{run, fold}
-use Rattle.response.specs.Demand.{demandOf}
-use Rattle.response.specs.Least.{firstOf, leastOf}
+use Rattle.demand.specs.declared.Response.{Response}
+use Rattle.demand.specs.Positions.{run, fold}
+use Rattle.demand.specs.Demand.{demandOf}
+use Rattle.demand.specs.Least.{firstOf, leastOf}
 use Rattle.table.specs.Tasks.{at}
 use Rattle.costs.specs.Costs.{reloadsOf, termAt}
 use Rattle.analysis.specs.Analysis.{ownOf, answerOf, responseOf}

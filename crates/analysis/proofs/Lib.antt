@@ -1,6 +1,5 @@
 -- What belongs to no one function.
 pub mod TableLaws
 pub mod AnswerLaws
-pub mod RowLaws
 pub mod Orders
 pub mod Figures

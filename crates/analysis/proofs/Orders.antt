@@ -5,11 +5,11 @@ use mathlib.Core.Bool.{Bool, true, false, cond}
 use mathlib.Core.Path.{_≡_, refl}
 use lib.Dec.{eqb}
 use Rattle.units.specs.declared.Ticks.{Ticks}
-use Rattle.response.specs.declared.Response.{Response}
-use Rattle.response.specs.declared.Response.the-variants.{Within, Unschedulable}
-use Rattle.response.specs.Least.{NoLater, sooner}
-use Rattle.response.proofs.DemandLaws.{answer-by}
-use Rattle.response.proofs.SoonerLaws.{sooner-mono}
+use Rattle.demand.specs.declared.Response.{Response}
+use Rattle.demand.specs.declared.Response.the-variants.{Within, Unschedulable}
+use Rattle.demand.specs.Least.{NoLater, sooner}
+use Rattle.demand.proofs.DemandLaws.{answer-by}
+use Rattle.demand.proofs.SoonerLaws.{sooner-mono}
 use Rattle.table.specs.declared.Table.{Table}
 use Rattle.table.specs.Accepted.{AcceptedTable}
 use Rattle.costs.specs.Harder.{Harder, HarderBy}

@@ -1,18 +1,18 @@
 -- Facts about a table's tasks, and about the lists that are made of them. Assumes nothing.
 use Prim.Native.Nat.{ℕ, _+_, _-_, _*_, _≤_, _<_}
-use native.Mathlib.Nat.{eq-or-lt-of-le}
 use native.Mathlib.Omega.{arith}
 use mathlib.Core.Path.{_≡_, sym, ap, _∙_}
-use mathlib.Core.Logic.{_⊎_, inl, inr}
 use mathlib.Core.List.{List}
+use borrow.Author.Count.{below-more}
 use lib.ListN.{length, getD, set, length-set}
 use lib.Seq.{getD-take, getD-set-same, getD-set-other}
 use Rattle.sets.specs.declared.CacheSet.{CacheSet}
 use Rattle.sets.specs.Stored.{heldAt, storedAt}
 use Rattle.sets.proofs.StoredLaws.{stored-long, stored-same, stored-other}
+use Rattle.tasks.specs.declared.Task.{Task}
+use Rattle.tasks.specs.Tasks.{blank}
 use Rattle.table.specs.declared.Table.{Table}
-use Rattle.table.specs.declared.Task.{Task}
-use Rattle.table.specs.Tasks.{at, blank}
+use Rattle.table.specs.Tasks.{at}
 use Rattle.table.specs.Accepted.{AcceptedTable, AcceptedTask}
 use Rattle.analysis.specs.Lists.{Listed, Numbers, Sets}
 
@@ -31,11 +31,11 @@ listed-none : (f : ℕ → ℕ) (xs : List ℕ) → length xs ≡ 32 → Listed 
 listed-none f xs l = record { long = l; each = λ k h. absurd (omega arith) }
 
 listed-next : (f : ℕ → ℕ) (xs : List ℕ) (k v : ℕ) → k < 32 → v ≡ f k → Listed f k xs → Listed f (k + 1) (set xs k v)
-listed-next f xs k v h e p = record { long = simp length-set (p .long); each = λ l q. go l (eq-or-lt-of-le (omega arith)) }
-  where
-    go : (l : ℕ) → (l ≡ k) ⊎ (l < k) → getD (set xs k v) l 0 ≡ f l
-    go l (inl q) = rw q (getD-set-same xs k v 0 (omega (arith, p .long)) ∙ e)
-    go l (inr q) = getD-set-other xs k l v 0 (λ z. omega arith) ∙ p .each l q
+listed-next f xs k v h e p = record {
+  long = simp length-set (p .long);
+  each = below-more (λ l. getD (set xs k v) l 0 ≡ f l) k (λ l q. getD-set-other xs k l v 0 (λ z. omega arith) ∙ p .each l q)
+      (getD-set-same xs k v 0 (omega (arith, p .long)) ∙ e);
+}
 
 module _ (table : Table) (ps js ws os ls : List ℕ) where
   pub numbers-none : length ps ≡ 32 → length js ≡ 32 → length ws ≡ 32 → length os ≡ 32 → length ls ≡ 32 → Numbers table 0 ps js ws os ls
@@ -64,11 +64,8 @@ module _ (table : Table) (ps js ws os ls : List ℕ) where
 
 held-next : (f : ℕ → CacheSet) (ws : List ℕ) (k : ℕ) (c : CacheSet) → 4 * k + 4 ≤ length ws → c ≡ f k → ((l : ℕ) → l < k → heldAt ws l ≡ f l)
     → (l : ℕ) → l < k + 1 → heldAt (storedAt ws k c) l ≡ f l
-held-next f ws k c h e p l q = go (eq-or-lt-of-le (omega arith))
-  where
-    go : (l ≡ k) ⊎ (l < k) → heldAt (storedAt ws k c) l ≡ f l
-    go (inl z) = rw z (stored-same ws k c h ∙ e)
-    go (inr z) = stored-other ws k c l (λ y. omega arith) ∙ p l z
+held-next f ws k c h e p =
+    below-more (λ l. heldAt (storedAt ws k c) l ≡ f l) k (λ l q. stored-other ws k c l (λ y. omega arith) ∙ p l q) (stored-same ws k c h ∙ e)
 
 module _ (table : Table) (us es : List ℕ) where
   pub sets-none : length us ≡ 128 → length es ≡ 128 → Sets table 0 us es

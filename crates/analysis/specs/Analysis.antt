@@ -4,17 +4,17 @@ use mathlib.Core.Bool.{cond}
 use mathlib.Core.List.{List, [], _∷_, map}
 use lib.Dec.{eqb}
 use lib.ListN.{replicate}
-use Rattle.response.specs.declared.Response.{Response}
-use Rattle.response.specs.declared.Response.the-variants.{Unschedulable}
-use Rattle.response.specs.declared.Cell.{Cell}
-use Rattle.response.specs.declared.Row.{Row}
-use Rattle.response.specs.Demand.{demandOf}
-use Rattle.response.specs.Least.{leastOf, sooner}
+use Rattle.demand.specs.Positions.{front}
+use Rattle.demand.specs.declared.Response.{Response}
+use Rattle.demand.specs.declared.Response.the-variants.{Unschedulable}
+use Rattle.demand.specs.declared.Cell.{Cell}
+use Rattle.demand.specs.declared.Row.{Row}
+use Rattle.demand.specs.Demand.{demandOf}
+use Rattle.demand.specs.Least.{leastOf, sooner}
 use Rattle.table.specs.declared.Table.{Table}
 use Rattle.table.specs.Tasks.{at}
 use Rattle.table.specs.Accepted.{AcceptedTable}
 use Rattle.costs.specs.Costs.{termAt}
-use Rattle.costs.specs.Lent.{front}
 
 -- C + B and D - J of the task at i
 abbrev pub ownOf : Table → ℕ → ℕ

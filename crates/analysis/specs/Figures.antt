@@ -4,9 +4,9 @@ use mathlib.Core.List.{List, [], _∷_}
 use lib.ListN.{length}
 use Rattle.sets.specs.declared.CacheSet.{CacheSet}
 use Rattle.units.specs.declared.Ticks.{Ticks}
-use Rattle.response.specs.declared.Response.{Response}
-use Rattle.response.specs.declared.Response.the-variants.{Within, Unschedulable}
-use Rattle.table.specs.declared.Task.{Task}
+use Rattle.demand.specs.declared.Response.{Response}
+use Rattle.demand.specs.declared.Response.the-variants.{Within, Unschedulable}
+use Rattle.tasks.specs.declared.Task.{Task}
 use Rattle.table.specs.declared.Table.{Table}
 
 abbrev ticks : ℕ → Ticks

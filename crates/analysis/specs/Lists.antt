@@ -1,18 +1,18 @@
--- A table's numbers and sets as lists, and the answers by lists.
-use Prim.Native.Nat.{ℕ, _+_, _-_, _*_, _<_, _≤_}
+-- A table's numbers and sets as lists, and the answer for one task by lists.
+use Prim.Native.Nat.{ℕ, _+_, _<_, _≤_}
 use mathlib.Core.Path.{_≡_}
-use mathlib.Core.List.{List, [], _∷_, map}
-use lib.ListN.{getD, length, take, drop}
+use mathlib.Core.List.{List}
+use lib.ListN.{getD, length}
 use Rattle.sets.specs.Stored.{heldAt}
-use Rattle.response.specs.declared.Response.{Response}
-use Rattle.response.specs.declared.Row.{Row}
-use Rattle.response.specs.Demand.{demandOf}
-use Rattle.response.specs.Flat.{flat, Handed}
-use Rattle.response.specs.Least.{leastOf}
+use Rattle.demand.specs.Positions.{front}
+use Rattle.demand.specs.declared.Response.{Response}
+use Rattle.demand.specs.Demand.{demandOf}
+use Rattle.demand.specs.Flat.{flat, Handed}
+use Rattle.demand.specs.Least.{leastOf}
 use Rattle.table.specs.declared.Table.{Table}
 use Rattle.table.specs.Tasks.{at}
-use Rattle.costs.specs.Lent.{Lent, weightIn, front}
-use Rattle.analysis.specs.Analysis.{ownOf, limitOf, withCombined, methods, cell}
+use Rattle.costs.specs.Lent.{Lent, weightIn}
+use Rattle.analysis.specs.Analysis.{ownOf, limitOf}
 
 -- a list of 32 numbers that has f at the first n positions
 pub record Listed (f : ℕ → ℕ) (n : ℕ) (xs : List ℕ) : Type 0 where
@@ -51,35 +51,3 @@ singleIn own limit i ps js works ucb ecb brt m = leastIn own limit i ps js (weig
 pub record TaskHanded (own limit i : ℕ) (ps js works ucb ecb : List ℕ) (brt : ℕ) : Type 0 where
   pub lent : Lent works ucb ecb brt (i + 1)
   pub handed : (m : ℕ) → m ≤ 4 → Handed own ps js (weightsIn works ucb ecb brt i m) i limit
-
--- the row of answers for the task at i
-abbrev pub rowIn : List ℕ → List ℕ → List ℕ → List ℕ → List ℕ → List ℕ → List ℕ → ℕ → ℕ → Row
-rowIn owns limits ps js works ucb ecb brt i =
-    record { cells = map (λ m. cell (withCombined (singleIn (getD owns i 0) (getD limits i 0) i ps js works ucb ecb brt) m)) methods }
-
--- what the answers for the first `count` tasks are to be handed
-pub record RowsHanded (owns limits ps js works ucb ecb : List ℕ) (brt count : ℕ) : Type 0 where
-  pub few : count ≤ 32
-  pub owns-long : count ≤ length owns
-  pub limits-long : count ≤ length limits
-  pub ecb-long : 4 * count ≤ length ecb
-  pub rows : (i : ℕ) → i < count → TaskHanded (getD owns i 0) (getD limits i 0) i ps js works ucb ecb brt
-
--- ---- one task, by a list of the weights under the methods 0 to 4
-
--- those of method m, and the answer by them
-abbrev pub rowAt : List ℕ → ℕ → List ℕ
-rowAt ws m = let from = m * 32 in take (from + 32 - from) (drop from ws)
-
-abbrev pub answerIn : ℕ → ℕ → ℕ → List ℕ → List ℕ → List ℕ → ℕ → Response
-answerIn own limit i ps js ws m = leastIn own limit i ps js (rowAt ws m)
-
--- a method that never has larger weights than m: UCB-Union for ECB-Only, ECB-Union for UCB-Only, and no reloads at all for the others
-abbrev pub cheaper : ℕ → ℕ
-cheaper m = getD (0 ∷ 3 ∷ 4 ∷ 0 ∷ 0 ∷ []) m 0
-
--- what the answers by such a list are to be handed
-pub record RowHanded (own limit i : ℕ) (ps js ws : List ℕ) : Type 0 where
-  pub long : length ws ≡ 160
-  pub handed : (m : ℕ) → m ≤ 4 → Handed own ps js (rowAt ws m) i limit
-  pub under : (m j : ℕ) → m ≤ 4 → j < i → getD (rowAt ws (cheaper m)) j 0 ≤ getD (rowAt ws m) j 0

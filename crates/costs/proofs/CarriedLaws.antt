@@ -13,9 +13,9 @@ use Rattle.sets.specs.Words.{members}
 use Rattle.sets.specs.Stored.{heldAt, storedAt, setAt}
 use Rattle.sets.proofs.WordLaws.{members-empty}
 use Rattle.sets.proofs.StoredLaws.{stored-long, stored-same, stored-other}
-use Rattle.table.specs.Tasks.{noSets}
-use Rattle.response.specs.Positions.{between, run, hp, fold}
-use Rattle.response.proofs.PositionLaws.{next}
+use Rattle.tasks.specs.Tasks.{noSets}
+use Rattle.demand.specs.Positions.{between, run, hp, fold}
+use Rattle.demand.proofs.PositionLaws.{next}
 use Rattle.costs.specs.declared.Gathered.{Gathered}
 use Rattle.costs.specs.Gather.{aff, unionOf, largestOf}
 use Rattle.costs.specs.Costs.{counts, reloadsOf}

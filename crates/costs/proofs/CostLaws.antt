@@ -5,7 +5,7 @@ use mathlib.Core.Path.{_≡_, sym, ap}
 use lib.ListN.{getD}
 use Rattle.sets.specs.Sets.{Set, size}
 use Rattle.sets.proofs.SetLaws.{size-le}
-use Rattle.response.proofs.PositionLaws.{fold-keeps}
+use Rattle.demand.proofs.PositionLaws.{fold-keeps}
 use Rattle.costs.specs.Gather.{aff, largestOf}
 use Rattle.costs.specs.Costs.{counts, reloadsOf}
 

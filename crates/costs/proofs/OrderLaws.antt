@@ -5,10 +5,10 @@ use native.Mathlib.Omega.{arith}
 use mathlib.Core.Path.{_≡_}
 use Rattle.sets.specs.Sets.{Set, ∅, _∪_, _⊆_}
 use Rattle.sets.proofs.SetLaws.{union-left, union-right, union-least, size-mono, size-inter-left, size-inter-right, size-inter-mono}
-use Rattle.response.specs.Positions.{hp}
-use Rattle.response.specs.Demand.{NoMore}
-use Rattle.response.specs.Flat.{InRange}
-use Rattle.response.proofs.PositionLaws.{Rising, place-lt, place-le, Grows, gathered}
+use Rattle.demand.specs.Positions.{hp}
+use Rattle.demand.specs.Demand.{NoMore}
+use Rattle.demand.specs.Flat.{InRange}
+use Rattle.demand.proofs.PositionLaws.{Rising, place-lt, place-le, Grows, gathered}
 use Rattle.table.specs.declared.Table.{Table}
 use Rattle.table.specs.Tasks.{at}
 use Rattle.table.specs.Accepted.{AcceptedTable}

@@ -6,7 +6,7 @@ use lib.ListN.{length, getD}
 use Rattle.sets.specs.Sets.{Set, _∪_, _∩_, size}
 use Rattle.sets.specs.Words.{members}
 use Rattle.sets.specs.Stored.{heldAt, setAt}
-use Rattle.response.specs.Positions.{between, hp}
+use Rattle.demand.specs.Positions.{between, hp}
 use Rattle.costs.specs.declared.Gathered.{Gathered}
 use Rattle.costs.specs.Gather.{unionOf, largestOf}
 use Rattle.costs.specs.Lent.{weightIn}

@@ -4,8 +4,8 @@ use mathlib.Core.List.{List, [], _∷_}
 use lib.ListN.{getD}
 use Rattle.sets.specs.Sets.{Set, _∩_, size}
 use Rattle.sets.specs.Words.{members}
-use Rattle.response.specs.Positions.{hp}
-use Rattle.response.specs.Demand.{Term, termOf}
+use Rattle.demand.specs.Positions.{hp}
+use Rattle.demand.specs.Demand.{Term, termOf}
 use Rattle.table.specs.declared.Table.{Table}
 use Rattle.table.specs.Tasks.{at}
 use Rattle.costs.specs.Gather.{aff, unionOf, largestOf}

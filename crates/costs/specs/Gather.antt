@@ -2,7 +2,7 @@
 use Prim.Native.Nat.{ℕ, _+_, max}
 use mathlib.Core.List.{List}
 use Rattle.sets.specs.Sets.{Set, ∅, _∪_}
-use Rattle.response.specs.Positions.{between, fold}
+use Rattle.demand.specs.Positions.{between, fold}
 
 -- the positions k with j < k ≤ i: whom an activation of j can affect while i is pending
 abbrev pub aff : ℕ → ℕ → List ℕ

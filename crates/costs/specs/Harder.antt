@@ -3,7 +3,7 @@ use Prim.Native.Nat.{ℕ, suc, _≤_, _<_}
 use mathlib.Core.Path.{_≡_}
 use Rattle.sets.specs.Sets.{_⊆_}
 use Rattle.sets.specs.Words.{members}
-use Rattle.table.specs.declared.Task.{Task}
+use Rattle.tasks.specs.declared.Task.{Task}
 use Rattle.table.specs.declared.Table.{Table}
 use Rattle.table.specs.Tasks.{at}
 

@@ -1,9 +1,8 @@
--- The lists of numbers that are lent to the code, and those that it fills.
-use Prim.Native.Nat.{ℕ, _-_, _*_, _≤_, _<_}
-use mathlib.Core.List.{List, _++_, map}
-use lib.ListN.{length, getD, replicate}
+-- The lists of numbers that are lent to the code, and what they give.
+use Prim.Native.Nat.{ℕ, _*_, _≤_, _<_}
+use mathlib.Core.List.{List}
+use lib.ListN.{length, getD}
 use Rattle.sets.specs.Stored.{setAt}
-use Rattle.response.specs.Positions.{hp}
 use Rattle.costs.specs.Costs.{reloadsOf, weightOf}
 
 -- what a call is lent of the first n tasks: their work, and four words for each UCB and ECB
@@ -21,7 +20,3 @@ reloadsIn ucb ecb = reloadsOf (setAt ucb) (setAt ecb)
 
 abbrev pub weightIn : List ℕ → ℕ → List ℕ → List ℕ → ℕ → ℕ → ℕ → ℕ
 weightIn works brt ucb ecb = weightOf (λ k. getD works k 0) brt (setAt ucb) (setAt ecb)
-
--- a list of 32: what f has at the positions below i, and z
-unfoldable pub front : {A : Type 0} → A → (ℕ → A) → ℕ → List A
-front z f i = map f (hp i) ++ replicate (32 - i) z

@@ -9,9 +9,9 @@ ghost use lib.ListN.{length, getD, set};
 ghost use Rattle.sets.specs.Sets.{_∩_, size};
 ghost use Rattle.sets.specs.Words.{members};
 ghost use Rattle.sets.specs.Stored.{setAt};
-ghost use Rattle.response.specs.Positions.{between};
+ghost use Rattle.demand.specs.Positions.{between, front};
 ghost use Rattle.costs.specs.Gather.{unionOf, largestOf};
-ghost use Rattle.costs.specs.Lent.{Lent, reloadsIn, weightIn, front};
+ghost use Rattle.costs.specs.Lent.{Lent, reloadsIn, weightIn};
 ghost use Rattle.costs.specs.Carried.{Small, Next, countsOf, place, Put, InPair, Evictions, Columns, RowWeighed};
 
 // The larger of two reload counts.
@@ -115,7 +115,7 @@ fn gather(gathered: Gathered, ucb: CacheSet, useful: Reloads, above: CacheSet) -
 {
     let all = gathered.all.union(ucb);
     let most = larger(gathered.most, useful);
-    let shared = larger(gathered.shared, ucb.intersection(above).size());
+    let shared = larger(gathered.shared, ucb.shared_size(useful, above));
     Gathered { most, all, shared }
 }
 

@@ -8,8 +8,8 @@ use mathlib.Core.List.{List}
 use borrow.Author.Tests.{le-ltb, lt-leb, leb-false}
 use lib.Dec.{leb}
 use Rattle.units.specs.declared.Ticks.{Ticks}
-use Rattle.response.specs.declared.Response.{Response}
-use Rattle.response.specs.declared.Response.the-variants as response
+use Rattle.demand.specs.declared.Response.{Response}
+use Rattle.demand.specs.declared.Response.the-variants as response
 use Rattle.table.specs.declared.Table.{Table}
 use Rattle.table.specs.declared.Verdict.the-variants as verdict
 use Rattle.table.specs.Reading.{readText}

@@ -7,14 +7,14 @@ use mathlib.Core.Bool.{Bool, true, false, cond}
 use mathlib.Core.List.{List}
 use lib.Dec.{eqb}
 use lib.ListN.{getD}
-use Rattle.response.specs.declared.Response.{Response}
-use Rattle.response.specs.declared.Response.the-variants.{Within, Unschedulable}
-use Rattle.response.specs.declared.Row.{Row}
-use Rattle.response.specs.Least.{leastOf, LeastWithin, sooner}
-use Rattle.response.proofs.LeastLaws.{leastOf-least}
+use Rattle.demand.specs.declared.Response.{Response}
+use Rattle.demand.specs.declared.Response.the-variants.{Within, Unschedulable}
+use Rattle.demand.specs.declared.Row.{Row}
+use Rattle.demand.specs.Least.{leastOf, LeastWithin, sooner}
+use Rattle.demand.proofs.LeastLaws.{leastOf-least}
 use Rattle.table.specs.declared.Table.{Table}
 use Rattle.table.specs.Accepted.{AcceptedTable}
-use Rattle.costs.proofs.LentLaws.{front-at}
+use Rattle.demand.proofs.FrontLaws.{front-at}
 use Rattle.analysis.specs.Analysis.{limitOf, answerOf, responseOf, rowOf, rowsOf}
 use Rattle.report.specs.Rows.{noRow, answerIn, answersIn, InRange, Reportable}
 use Rattle.report.specs.Report.{reportOf}

@@ -7,16 +7,17 @@ use Prim.Native.Nat.{ℕ}
 use Rattle.fields.specs.Bytes.{all, same}
 use Rattle.text.specs.Cut.{upTo, after, count, pastTabs, field, lines}
 use Rattle.fields.specs.Fields.{digitsFrom, readNumber, hasShape, isName}
-use Rattle.sets.specs.Field.{hexDigit, readHex, readSet}
+use Rattle.hex.specs.Hex.{hexDigit, readHex}
+use Rattle.sets.specs.Field.{readSet}
 use Rattle.sets.specs.Sets.{∅, _∪_, _∩_, count as counted, size}
 use Rattle.sets.specs.Words.{number, members, wordsOf}
-use Rattle.table.specs.Faults.{firstFault, textFault, headInRange, headFault, taskInRange, taskInOrder, knows, taskFault, endFault}
+use Rattle.tasks.specs.Said.{headSaid, fieldsSaid, taskSaid}
+use Rattle.faults.specs.Faults.{firstFault, textFault, headInRange, headFault, taskInRange, taskInOrder, knows, taskFault, endFault}
 use Rattle.table.specs.Reading.{readFrom, readLines, readText}
-use Rattle.table.specs.Said.{headSaid, fieldsSaid, taskSaid}
 use Rattle.table.specs.Tasks.{at, withTask}
-use Rattle.response.specs.Demand.{demandOf}
-use Rattle.response.specs.Least.{firstOf, leastOf}
-use Rattle.response.specs.Positions.{run, fold}
+use Rattle.demand.specs.Demand.{demandOf}
+use Rattle.demand.specs.Least.{firstOf, leastOf}
+use Rattle.demand.specs.Positions.{run, fold}
 use Rattle.costs.specs.Costs.{reloadsOf}
 use Rattle.analysis.specs.Analysis.{answerOf, responseOf}
 use Rattle.writer.specs.Text.{digits, spelled}

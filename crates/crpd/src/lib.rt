@@ -3,7 +3,7 @@
 pub mod exported;
 
 use delivery::Written;
-use response::Response;
+use demand::Response;
 use table::Refusal;
 use table::Table;
 use table::Verdict;
@@ -69,7 +69,7 @@ fn report_in(table: Table, out: &mut [u8]) -> Written
     requires { ⌜ AcceptedTable table ⌝ }
     ensures { λ r. ⌜ Reported table (responseOf table) (now (out .entry)) r (now (out .exit)) ⌝ }
 {
-    report::report(table, analysis::responses(table), out)
+    report::report(table, rows::responses(table), out)
 }
 
 // The report, at the start of the buffer, or a refusal that leaves the buffer as it was.

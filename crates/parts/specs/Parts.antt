@@ -3,8 +3,8 @@
 use Prim.Native.Nat.{ℕ, zero, suc}
 use mathlib.Core.Path.{_≡_}
 use mathlib.Core.List.{List}
-use Rattle.response.specs.declared.Response.{Response}
-use Rattle.response.specs.declared.Response.the-variants.{Within, Unschedulable}
+use Rattle.demand.specs.declared.Response.{Response}
+use Rattle.demand.specs.declared.Response.the-variants.{Within, Unschedulable}
 use Rattle.table.specs.declared.Table.{Table}
 use Rattle.table.specs.declared.Verdict.{Verdict}
 use Rattle.table.specs.declared.Verdict.the-variants as verdict

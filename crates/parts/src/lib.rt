@@ -1,6 +1,6 @@
 // The parts of the work, each as often as asked, for a benchmark to time apart. specs/Parts.antt says what each gives.
 use delivery::Written;
-use response::Response;
+use demand::Response;
 use table::Table;
 use table::Verdict;
 ghost use mathlib.Core.Path.{_≡_};
@@ -31,7 +31,7 @@ fn answer(table: Table, times: u64) -> u64
 {
     let mut first = 0;
     for _ in 0..times {
-        let rows = analysis::responses(table);
+        let rows = rows::responses(table);
         let row = rows[0];
         let cell = row.cells[0];
         let response = cell.response;
@@ -44,7 +44,7 @@ fn write(table: Table, times: u64, out: &mut [u8]) -> u64
     requires { ⌜ AcceptedTable table ⌝ }
     ensures { λ r. ⌜ Rewritten table times (now (out .entry)) r (now (out .exit)) ⌝ }
 {
-    let rows = analysis::responses(table);
+    let rows = rows::responses(table);
     let mut len = 0;
     for _ in 0..times {
         len = written_len(report::report(table, rows, out));

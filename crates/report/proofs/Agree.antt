@@ -3,10 +3,11 @@ use mathlib.Core.Path.{_≡_, ap, ap₂}
 use mathlib.Core.Bool.{Bool}
 use mathlib.Core.List.{List, [], _∷_, _++_}
 use Prim.Native.Nat.{ℕ, _<_}
-use Rattle.response.specs.declared.Response.{Response}
-use Rattle.table.specs.declared.Task.{Task}
+use Rattle.demand.specs.declared.Response.{Response}
+use Rattle.tasks.specs.declared.Task.{Task}
+use Rattle.tasks.specs.Tasks.{nameOf}
 use Rattle.table.specs.declared.Table.{Table}
-use Rattle.table.specs.Tasks.{nameOf, at}
+use Rattle.table.specs.Tasks.{at}
 use Rattle.writer.specs.Text.{spelled, line}
 use Rattle.report.specs.Report.{answerText, limitOf, hasResponse, taskLine, every, verdict, yesNo, verdictLine, reportOf}
 use Rattle.report.proofs.Lists.{map-agree, flat-agree}

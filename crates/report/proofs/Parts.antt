@@ -6,10 +6,10 @@ use Prim.Native.Nat.{ℕ, suc, _+_, _≤_}
 use native.Mathlib.Omega.{arith}
 use lib.Dec.{eqb}
 use lib.ListN.{length, getD}
-use Rattle.response.specs.declared.Response.{Response}
-use Rattle.response.specs.declared.Response.the-variants.{Within, Unschedulable}
-use Rattle.table.specs.declared.Task.{Task}
-use Rattle.table.specs.Tasks.{nameOf}
+use Rattle.demand.specs.declared.Response.{Response}
+use Rattle.demand.specs.declared.Response.the-variants.{Within, Unschedulable}
+use Rattle.tasks.specs.declared.Task.{Task}
+use Rattle.tasks.specs.Tasks.{nameOf}
 use Rattle.text.specs.Cut.{upTo}
 use Rattle.writer.specs.Text.{spelled, field, flat}
 use Rattle.writer.proofs.Spelling.{spelled-short}

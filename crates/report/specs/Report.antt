@@ -2,11 +2,12 @@
 use Prim.Native.Nat.{ℕ, zero, suc, _-_}
 use mathlib.Core.Bool.{Bool, true, false, _&&_}
 use mathlib.Core.List.{List, [], _∷_, _++_, map}
-use Rattle.response.specs.declared.Response.{Response}
-use Rattle.response.specs.declared.Response.the-variants.{Within, Unschedulable}
-use Rattle.table.specs.declared.Task.{Task}
+use Rattle.demand.specs.declared.Response.{Response}
+use Rattle.demand.specs.declared.Response.the-variants.{Within, Unschedulable}
+use Rattle.tasks.specs.declared.Task.{Task}
+use Rattle.tasks.specs.Tasks.{nameOf}
 use Rattle.table.specs.declared.Table.{Table}
-use Rattle.table.specs.Tasks.{nameOf, at}
+use Rattle.table.specs.Tasks.{at}
 use Rattle.writer.specs.Text.{spelled, flat, line}
 
 -- the numbers below n, in order

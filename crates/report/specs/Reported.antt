@@ -4,7 +4,7 @@ use mathlib.Core.List.{List}
 use lib.ListN.{length}
 use Rattle.delivery.specs.declared.Written.{Written}
 use Rattle.delivery.specs.Delivery.{Delivered}
-use Rattle.response.specs.declared.Response.{Response}
+use Rattle.demand.specs.declared.Response.{Response}
 use Rattle.table.specs.declared.Table.{Table}
 use Rattle.report.specs.Report.{reportOf}
 

@@ -4,8 +4,8 @@ mod verdicts;
 
 use delivery::Written;
 use delivery::deliver;
+use demand::Row;
 use lines::put_task_lines;
-use response::Row;
 use table::Table;
 use verdicts::put_verdict_line;
 ghost use Rattle.report.specs.Rows.{answersIn, Reportable};

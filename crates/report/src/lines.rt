@@ -1,15 +1,16 @@
 // The lines of the tasks.
-use response::Response;
-use response::Row;
+use demand::Response;
+use demand::Row;
 use table::Table;
-use table::Task;
+use tasks::Task;
 use writer::put_byte;
 use writer::put_field;
 use writer::put_number_field;
 ghost use Prim.Native.Nat.{_+_, _≤_};
 ghost use mathlib.Core.List.{[], _∷_, _++_};
 ghost use lib.ListN.{length};
-ghost use Rattle.table.specs.Tasks.{nameOf, at};
+ghost use Rattle.tasks.specs.Tasks.{nameOf};
+ghost use Rattle.table.specs.Tasks.{at};
 ghost use Rattle.writer.specs.Text.{spelled, field, flat};
 ghost use Rattle.writer.specs.Wrote.{Wrote};
 ghost use Rattle.report.specs.Report.{below, answerText, limitOf, taskLine};

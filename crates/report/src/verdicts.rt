@@ -1,6 +1,6 @@
 // The verdicts of the methods, and the line that tells them.
-use response::Response;
-use response::Row;
+use demand::Response;
+use demand::Row;
 use writer::put_byte;
 use writer::put_field;
 ghost use mathlib.Core.Path.{_≡_};

@@ -1,105 +1,297 @@
--- Facts about the counts that are kept from turn to turn. Assumes nothing.
-use Prim.Native.Nat.{ℕ, zero, suc, _+_, _*_, _≤_, _<_, zero-le}
-use native.Mathlib.Nat.{lt-of-not-le, mul-le-mul-right}
-use native.Mathlib.Decide.{ℕ-discrete}
+-- Facts about the counts that are kept from turn to turn, and their ends. Assumes nothing.
+use Prim.Native.Nat.{ℕ, zero, suc, _+_, _-_, _*_, _≤_, _<_, zero-le}
+use native.Mathlib.Nat.{div-mul-le-self, le-antisymm, lt-of-not-le, mul-le-mul, mul-le-mul-left, mul-le-mul-right}
+use native.Mathlib.Decide.{decLe}
 use native.Mathlib.Numerals.{add-one}
 use native.Mathlib.Omega.{arith}
-use mathlib.Core.Path.{_≡_, refl, sym, _∙_}
+use mathlib.Core.Path.{_≡_, refl, sym, ap, ap₂, _∙_}
+use mathlib.Core.Bool.{Bool, true, false}
 use mathlib.Core.List.{List}
+use lib.Dec.{ltb}
 use borrow.Author.Count.{below-more}
+use borrow.Author.Tests.{ltb-true, ltb-false}
 use lib.ListN.{getD, length, set, replicate, length-set, length-replicate, getD-replicate}
 use lib.Seq.{getD-set-same, getD-set-other}
-use Rattle.response.specs.Demand.{Term, activationsOf, demandOf, NoMore}
-use Rattle.response.specs.Flat.{flat, InRange, Handed}
-use Rattle.response.specs.Least.{Reached}
-use Rattle.response.specs.Counts.{askedOf, Kept, Counted, Started}
-use Rattle.response.proofs.PositionLaws.{none, next}
-use Rattle.response.proofs.LeastLaws.{solution-under, reached-below}
-use Rattle.response.proofs.DemandLaws.{ceil-le, activations-mono, activations-bound, no-more-self}
-use Rattle.response.proofs.DemandLaws.{demand-none, demand-next, demand-own, demand-mono, demand-more}
+use Rattle.demand.specs.Positions.{front}
+use Rattle.demand.specs.Demand.{Term, ceil, activationsOf, demandOf, NoMore}
+use Rattle.demand.specs.Flat.{flat, InRange, Handed}
+use Rattle.demand.specs.Least.{Reached}
+use Rattle.response.specs.Counts.{oneIf, missingOf, askedOf, firstEnd, Counting, Periodic, Kept, Raised, Started}
+use Rattle.demand.proofs.PositionLaws.{none, next, fold-same}
+use Rattle.demand.proofs.FrontLaws.{front-at, front-long}
+use Rattle.demand.proofs.LeastLaws.{solution-under, reached-below}
+use Rattle.demand.proofs.DemandLaws.{ceil-le, ceil-mul, ceil-is, ceil-most, activations-mono, activations-some, no-more-self}
+use Rattle.demand.proofs.DemandLaws.{demand-none, demand-next, demand-own, demand-shift, demand-same, demand-mono, demand-more}
 
--- ---- one count anew
+-- ---- the activations that are missing
 
-pub counted-none : (t : ℕ → Term) (r : ℕ) (counts : List ℕ) → length counts ≡ 32 → Counted t 0 r counts
-counted-none t r counts h = record { long = h; exact = λ j l. absurd (omega arith) }
+module _ (period end r : ℕ) (live : 1 ≤ period) where
+  -- none where the count holds up to r
+  pub missing-none : r ≤ end → 0 ≡ missingOf period end r
+  missing-none l = sym (le-antisymm (ceil-le (r - end) 0 period live .1 (omega arith)) zero-le)
 
-module _ (counts : List ℕ) (i count : ℕ) (h : i < 32) where
-  pub kept-next : (n : ℕ) → count ≤ 500000000 → Kept n counts → Kept n (set counts i count)
-  kept-next n m p = record {
-    long = simp length-set (p .long);
-    few = λ j l. elim (ℕ-discrete j i) [
-      | yes e ↦ rw (e, getD-set-same counts i count 0 (omega (arith, p .long))) m
-      | no e ↦ rw (getD-set-other counts i j count 0 e) (p .few j l)
-    ];
-  }
+  pub missing-most : missingOf period end r ≤ r
+  missing-most = ceil-most (r - end) r period live (omega arith)
 
-  pub counted-next : (t : ℕ → Term) (r : ℕ) → count ≡ activationsOf r (t i) → Counted t i r counts → Counted t (i + 1) r (set counts i count)
-  counted-next t r e p = record {
-    long = simp length-set (p .long);
-    exact = below-more (λ j. getD (set counts i count) j 0 ≡ activationsOf r (t j)) i
-        (λ j l. getD-set-other counts i j count 0 (λ z. omega arith) ∙ p .exact j l)
-        (getD-set-same counts i count 0 (omega (arith, p .long)) ∙ e);
-  }
+  -- some may be told before the others
+  pub missing-after : (k : ℕ) → end + k * period ≤ r → k + missingOf period (end + k * period) r ≡ missingOf period end r
+  missing-after k l =
+      let x = r - (end + k * period) in
+      ceil-is (r - end) (k + ceil x period) period live
+      (omega (arith, ceil-mul x period live)) (omega (arith, div-mul-le-self (x + (period - 1)) period))
+
+  -- a first one, where r is past the end, may be all
+  pub missing-one : (one : ℕ) → one ≡ oneIf (ltb end r) → r ≤ end + one * period → one ≡ missingOf period end r
+  missing-one one e l = go (ltb end r) refl e
+    where
+      go : (b : Bool) → ltb end r ≡ b → one ≡ oneIf b → one ≡ missingOf period end r
+      go true t e = ceil-is (r - end) one period live (omega arith) (omega (arith, ltb-true end r t, ap (λ (k : ℕ). k * period) e))
+      go false t e = e ∙ missing-none (ltb-false end r t)
+
+  -- a count that is raised holds up to an end that is less than a period past r
+  pub missing-end : period ≤ 250000000 → r ≤ 250000000 → end ≤ 500000000 → end + missingOf period end r * period ≤ 500000000
+  missing-end p h e = elim (decLe r end) [
+    | yes l ↦ rw (← missing-none l) (omega arith)
+    | no l ↦ omega (arith, lt-of-not-le l, div-mul-le-self (r - end + (period - 1)) period)
+  ]
+
+  -- and is no more than a count that holds up to r
+  pub missing-under : (jitter count more : ℕ) → end + jitter ≡ count * period → r + jitter ≤ (count + more) * period
+      → missingOf period end r ≤ more
+  missing-under jitter count more e h = ceil-le (r - end) more period live .1 (omega arith)
 
 -- ---- what counts ask for
 
-module _ (own : ℕ) (ws counts : List ℕ) where
-  pub asked-none : askedOf own ws counts 0 ≡ own
+-- one of them
+pub asks-bound : (c w : ℕ) → c ≤ 1000000000 → w ≤ 500000000 → c * w ≤ 500000000000000000
+asks-bound c w h k = mul-le-mul {n₂ = 1000000000} {m₂ = 500000000} h k
+
+module _ (own : ℕ) (ws : List ℕ) where
+  pub asked-none : (counts : List ℕ) → askedOf own ws counts 0 ≡ own
   unfolding askedOf
-  asked-none = none _+_ own (λ j. getD counts j 0 * getD ws j 0) 0
+  asked-none counts = none _+_ own (λ j. getD counts j 0 * getD ws j 0) 0
 
-  pub asked-next : (n : ℕ) → askedOf own ws counts (n + 1) ≡ askedOf own ws counts n + getD counts n 0 * getD ws n 0
+  pub asked-next : (counts : List ℕ) (n : ℕ) → askedOf own ws counts (n + 1) ≡ askedOf own ws counts n + getD counts n 0 * getD ws n 0
   unfolding askedOf
-  asked-next n = sym (next _+_ own (λ j. getD counts j 0 * getD ws j 0) 0 n _ _ zero-le refl refl)
+  asked-next counts n = sym (next _+_ own (λ j. getD counts j 0 * getD ws j 0) 0 n _ _ zero-le refl refl)
 
-  -- counts that are no more than the activations ask for no more than the demand
-  asked-under : (ps js : List ℕ) (s n : ℕ) → ((j : ℕ) → j < n → getD counts j 0 ≤ activationsOf s (flat ps js ws j))
-      → askedOf own ws counts n ≤ demandOf own (flat ps js ws) n s
-  asked-under ps js s zero p = omega (arith, asked-none, demand-none own (flat ps js ws) s)
-  asked-under ps js s (suc n) p =
-      omega (
-        arith,
-        asked-under ps js s n (λ j l. p j (omega arith)),
-        mul-le-mul-right (getD ws n 0) (p n (omega arith)),
-        rw add-one at (asked-next n),
-        rw add-one at (demand-next own (flat ps js ws) s n),
-      )
+  -- only the first n counts matter
+  asked-same : (a b : List ℕ) (n : ℕ) → ((j : ℕ) → j < n → getD a j 0 ≡ getD b j 0) → askedOf own ws a n ≡ askedOf own ws b n
+  unfolding askedOf
+  asked-same a b n p = fold-same _+_ own _ _ 0 (n - 0) (λ j _ l. ap (λ (c : ℕ). c * getD ws j 0) (p j (omega arith)))
 
-  -- the iteration may go on from there
-  pub asked-reached : {ps js : List ℕ} {n r : ℕ} → Handed own ps js ws n r → Started own (flat ps js ws) n counts
-      → Reached (demandOf own (flat ps js ws) n) (askedOf own ws counts n)
-  asked-reached {ps} {js} {n} p q =
-      reached-below _ (demand-mono (flat ps js ws) n own (p .ranged)) _ (λ s e. omega (arith, asked-under ps js s n (q .under s e)))
+  -- counts that are no more than the activations ask for no more than the demand, and the other way round
+  module _ (ps js counts : List ℕ) (s : ℕ) where
+    asked-under : (n : ℕ) → ((j : ℕ) → j < n → getD counts j 0 ≤ activationsOf s (flat ps js ws j))
+        → askedOf own ws counts n ≤ demandOf own (flat ps js ws) n s
+    asked-under zero p = omega (arith, asked-none counts, demand-none own (flat ps js ws) s)
+    asked-under (suc n) p =
+        omega (
+          arith,
+          asked-under n (λ j l. p j (omega arith)),
+          mul-le-mul-right (getD ws n 0) (p n (omega arith)),
+          rw add-one at (asked-next counts n),
+          rw add-one at (demand-next own (flat ps js ws) s n),
+        )
+
+    asked-over : (n : ℕ) → ((j : ℕ) → j < n → activationsOf s (flat ps js ws j) ≤ getD counts j 0)
+        → demandOf own (flat ps js ws) n s ≤ askedOf own ws counts n
+    asked-over zero p = omega (arith, asked-none counts, demand-none own (flat ps js ws) s)
+    asked-over (suc n) p =
+        omega (
+          arith,
+          asked-over n (λ j l. p j (omega arith)),
+          mul-le-mul-right (getD ws n 0) (p n (omega arith)),
+          rw add-one at (asked-next counts n),
+          rw add-one at (demand-next own (flat ps js ws) s n),
+        )
+
+  -- with one count more, which is new
+  pub asked-raised : (counts : List ℕ) (i count : ℕ) → i < length counts
+      → askedOf own ws (set counts i count) (i + 1) ≡ askedOf own ws counts i + count * getD ws i 0
+  asked-raised counts i count l =
+      asked-next (set counts i count) i
+      ∙ ap₂ (λ (a c : ℕ). a + c * getD ws i 0) (asked-same _ _ i (λ j m. getD-set-other counts i j count 0 (λ z. omega arith)))
+      (getD-set-same counts i count 0 l)
+
+-- the counts that are raised so far, and those that are not
+pub record Passed (ps : List ℕ) (r : ℕ) (counts ends : List ℕ) (i : ℕ) (to to-ends : List ℕ) : Type 0 where
+  pub raised : Raised ps r counts ends i to to-ends
+  pub rest : (j : ℕ) → i ≤ j → getD to j 0 ≡ getD counts j 0
+  pub rest-ends : (j : ℕ) → i ≤ j → getD to-ends j 0 ≡ getD ends j 0
+
+module _ (ps : List ℕ) (r : ℕ) (counts ends : List ℕ) where
+  pub passed-none : length counts ≡ 32 → length ends ≡ 32 → Passed ps r counts ends 0 counts ends
+  passed-none h k = record {
+    raised = record { long = h; ends-long = k; count = λ j l. absurd (omega arith); end = λ j l. absurd (omega arith) };
+    rest = λ j l. refl;
+    rest-ends = λ j l. refl;
+  }
+
+  pub passed-next : (i : ℕ) (to to-ends : List ℕ) (more : ℕ) → i < 32 → more ≡ missingOf (getD ps i 0) (getD to-ends i 0) r
+      → Passed ps r counts ends i to to-ends
+      → Passed ps r counts ends (i + 1) (set to i (getD to i 0 + more)) (set to-ends i (getD to-ends i 0 + more * getD ps i 0))
+  passed-next i to to-ends more h e p = record {
+    raised = record {
+      long = simp length-set (p .raised .long);
+      ends-long = simp length-set (p .raised .ends-long);
+      count = below-more (λ j. getD (set to i c) j 0 ≡ getD counts j 0 + missingOf (getD ps j 0) (getD ends j 0) r) i
+          (λ j l. getD-set-other to i j c 0 (λ z. omega arith) ∙ p .raised .count j l)
+          (getD-set-same to i c 0 (omega (arith, p .raised .long)) ∙ rw (e, p .rest i (omega arith), p .rest-ends i (omega arith)) refl);
+      end = below-more (λ j. getD (set to-ends i d) j 0 ≡ getD ends j 0 + missingOf (getD ps j 0) (getD ends j 0) r * getD ps j 0) i
+          (λ j l. getD-set-other to-ends i j d 0 (λ z. omega arith) ∙ p .raised .end j l)
+          (getD-set-same to-ends i d 0 (omega (arith, p .raised .ends-long)) ∙ rw (e, p .rest-ends i (omega arith)) refl);
+    };
+    rest = λ j l. getD-set-other to i j c 0 (λ z. omega arith) ∙ p .rest j (omega arith);
+    rest-ends = λ j l. getD-set-other to-ends i j d 0 (λ z. omega arith) ∙ p .rest-ends j (omega arith);
+  }
+    where
+      c : ℕ
+      c = getD to i 0 + more
+
+      d : ℕ
+      d = getD to-ends i 0 + more * getD ps i 0
 
 -- ---- counts to start from
 
-module _ (own n : ℕ) (t : ℕ → Term) (counts : List ℕ) (ranged : (j : ℕ) → j < n → InRange (t j)) where
+module _ {own n limit : ℕ} {ps js ws : List ℕ} (handed : Handed own ps js ws n limit) where
+  pub handed-counting : Counting own ws n
+  handed-counting = record { few = handed .few; own-most = handed .own-most; weights = handed .weights; weight = λ j l. handed .ranged j l .weight }
+
+  pub handed-periodic : Periodic ps n
+  handed-periodic = record { periods = handed .periods; live = λ j l. handed .ranged j l .period; most = λ j l. handed .ranged j l .period-most }
+
+  pub handed-firsts : (n ≤ 32) × (n ≤ length ps) × (n ≤ length js) × ((j : ℕ) → j < n → getD js j 0 ≤ getD ps j 0)
+  handed-firsts = (handed .few, handed .periods, handed .jitters, λ j l. handed .ranged j l .jitter)
+
   -- one activation of each term
-  ones-started : 1 ≤ own → length counts ≡ 32 → ((j : ℕ) → j < n → getD counts j 0 ≡ 1) → Started own t n counts
-  ones-started h long p = record {
-    kept = record { long = long; few = λ j l. omega (arith, p j l) };
-    under = λ s e j l. rw (p j l) (once s (omega (arith, demand-own own t s n)) j l);
+  pub ones-started : Started own (flat ps js ws) n (replicate 32 1) (front 0 (firstEnd ps js) n)
+  ones-started = record {
+    long = length-replicate {A = ℕ} 32 1;
+    ends-long = front-long 0 _ n (handed .few);
+    soon = λ j l. rw (front-at 0 (firstEnd ps js) n j 0 l) (omega (arith, handed .ranged j l .period-most));
+    holds = λ j l. rw (front-at 0 (firstEnd ps js) n j 0 l, one j l) (omega (arith, handed .ranged j l .jitter));
+    under = λ s e j l. rw (one j l) (activations-some s _ (handed .ranged j l) (omega (arith, handed .own-least, demand-own own (flat ps js ws) s n)));
   }
     where
-      once : (s : ℕ) → 1 ≤ s → (j : ℕ) → j < n → 1 ≤ activationsOf s (t j)
-      once s k j l = lt-of-not-le (λ m. let q = ceil-le (s + t j .jitter) 0 (t j .period) (ranged j l .period) .0 m in omega arith)
+      one : (j : ℕ) → j < n → getD {A = ℕ} (replicate 32 1) j 0 ≡ 1
+      one j l = getD-replicate {A = ℕ} 32 j 1 0 (omega (arith, handed .few))
 
-  -- the activations up to a time that no solution is below
-  pub counted-started : (r : ℕ) → r ≤ 250000000 → Reached (demandOf own t n) r → Counted t n r counts → Started own t n counts
-  counted-started r h at p = record {
-    kept = record { long = p .long; few = λ j l. rw (p .exact j l) (activations-bound r (t j) (ranged j l) h) };
-    under = λ s e j l. rw (p .exact j l) (activations-mono r s (at .below s e) (t j) (t j) (no-more-self (t j) (ranged j l)));
-  }
+  module _ {counts ends : List ℕ} (started : Started own (flat ps js ws) n counts ends) where
+    pub started-kept : Kept n counts ends
+    started-kept = record {
+      long = started .long;
+      ends-long = started .ends-long;
+      few = λ j l. let t = handed .ranged j l in
+          omega (arith, mul-le-mul-left (getD counts j 0) (t .period), started .holds j l, started .soon j l, t .jitter, t .period-most);
+      soon = started .soon;
+    }
 
-  -- those of terms that ask for no more
-  pub started-harder : (f : ℕ → Term) → ((j : ℕ) → j < n → NoMore (t j) (f j)) → Started own t n counts → Started own f n counts
-  started-harder f more p = record { kept = p .kept; under = under }
-    where
-      under : (s : ℕ) → s ≡ demandOf own f n s → (j : ℕ) → j < n → getD counts j 0 ≤ activationsOf s (f j)
-      under s e j l =
-          let w = solution-under _ (demand-mono t n own ranged) s (omega (arith, demand-more t f n own more s)) in
-          omega (arith, p .under (w .0) (w .2) j l, activations-mono (w .0) s (w .1) (t j) (f j) (more j l))
+    -- the search may go on from what they ask for
+    pub asked-reached : Reached (demandOf own (flat ps js ws) n) (askedOf own ws counts n)
+    asked-reached =
+        reached-below _ (demand-mono (flat ps js ws) n own (handed .ranged)) _
+        (λ s e. omega (arith, asked-under own ws ps js counts s n (started .under s e)))
 
-pub ones-handed : (own r n : ℕ) (ps js ws : List ℕ) → Handed own ps js ws n r → Started own (flat ps js ws) n (replicate 32 1)
-ones-handed own r n ps js ws p =
-    ones-started own n _ _ (p .ranged) (p .own-least) (length-replicate {A = ℕ} 32 1) (λ j l. getD-replicate {A = ℕ} 32 j 1 0 (omega (arith, p .few)))
+    -- and ends there where all of them hold up to it
+    pub asked-settled : (r : ℕ) → r ≡ askedOf own ws counts n → ((j : ℕ) → j < n → r ≤ getD ends j 0) → r ≡ demandOf own (flat ps js ws) n r
+    asked-settled r is hold =
+        le-antisymm (rw (← is) at (asked-reached .rises)) (rw (← is) at (asked-over own ws ps js counts r n covers))
+      where
+        covers : (j : ℕ) → j < n → activationsOf r (flat ps js ws j) ≤ getD counts j 0
+        covers j l =
+            ceil-le (r + getD js j 0) (getD counts j 0) (getD ps j 0) (handed .ranged j l .period) .1
+            (omega (arith, hold j l, started .holds j l))
+
+    -- raised up to a time that no solution is below
+    pub raised-started : (r : ℕ) (to to-ends : List ℕ) → r ≤ 250000000 → Reached (demandOf own (flat ps js ws) n) r
+        → Raised ps r counts ends n to to-ends → Started own (flat ps js ws) n to to-ends
+    raised-started r to to-ends h at p = record {
+      long = p .long;
+      ends-long = p .ends-long;
+      soon = λ j l. rw (p .end j l)
+          (missing-end _ _ _ (handed .ranged j l .period) (handed .ranged j l .period-most) h (started .soon j l));
+      holds = λ j l. rw (p .end j l, p .count j l) (omega (arith, started .holds j l));
+      under = λ s e j l. rw (p .count j l) (raised-under s e j l (started .under s e j l));
+    }
+      where
+        raised-under : (s : ℕ) → s ≡ demandOf own (flat ps js ws) n s → (j : ℕ) → j < n → getD counts j 0 ≤ activationsOf s (flat ps js ws j)
+            → getD counts j 0 + missingOf (getD ps j 0) (getD ends j 0) r ≤ activationsOf s (flat ps js ws j)
+        raised-under s e j l k =
+            let c = getD counts j 0 in
+            let a = activationsOf s (flat ps js ws j) in
+            let is : c + (a - c) ≡ a = omega arith in
+            let m = missing-under (getD ps j 0) (getD ends j 0) r (handed .ranged j l .period) (getD js j 0) c (a - c) (started .holds j l)
+            (rw is (omega (arith, at .below s e, ceil-mul (s + getD js j 0) (getD ps j 0) (handed .ranged j l .period)))) in
+            omega arith
+
+-- a task without terms has nothing to count
+pub started-none : (own : ℕ) (t : ℕ → Term) (counts ends : List ℕ) → length counts ≡ 32 → length ends ≡ 32 → Started own t 0 counts ends
+started-none own t counts ends h k = record {
+  long = h;
+  ends-long = k;
+  soon = λ j l. absurd (omega arith);
+  holds = λ j l. absurd (omega arith);
+  under = λ s e j l. absurd (omega arith);
+}
+
+-- only the first n terms matter
+pub started-same : (own n : ℕ) (t f : ℕ → Term) (counts ends : List ℕ) → ((j : ℕ) → j < n → t j ≡ f j) → Started own t n counts ends
+    → Started own f n counts ends
+started-same own n t f counts ends same p = record {
+  long = p .long;
+  ends-long = p .ends-long;
+  soon = p .soon;
+  holds = λ j l. rw (← same j l) (p .holds j l);
+  under = λ s e j l. rw (← same j l) (p .under s (e ∙ ap (λ (g : ℕ → ℕ). g s) (sym (demand-same own t f n same))) j l);
+}
+
+-- with a term more, which is activated once, for a task whose own work and that term's weight make up for the own work before
+pub started-next : (c d n : ℕ) (t : ℕ → Term) (counts ends : List ℕ) → n < 32 → 1 ≤ d → c ≤ d + t n .weight → ((j : ℕ) → j < n + 1 → InRange (t j))
+    → Started c t n counts ends → Started d t (n + 1) (set counts n 1) (set ends n (t n .period - t n .jitter))
+started-next c d n t counts ends few own enough ranged p = record {
+  long = simp length-set (p .long);
+  ends-long = simp length-set (p .ends-long);
+  soon = below-more (λ j. getD (set ends n e) j 0 ≤ 500000000) n
+      (λ j l. rw (getD-set-other ends n j e 0 (λ z. omega arith)) (p .soon j l))
+      (rw (getD-set-same ends n e 0 (omega (arith, p .ends-long))) (omega (arith, here .period-most)));
+  holds = below-more (λ j. getD (set ends n e) j 0 + t j .jitter ≡ getD (set counts n 1) j 0 * t j .period) n
+      (λ j l. rw (getD-set-other ends n j e 0 (λ z. omega arith), getD-set-other counts n j 1 0 (λ z. omega arith)) (p .holds j l))
+      (rw (getD-set-same ends n e 0 (omega (arith, p .ends-long)), getD-set-same counts n 1 0 (omega (arith, p .long))) (omega (arith, here .jitter)));
+  under = λ s f. below-more (λ j. getD (set counts n 1) j 0 ≤ activationsOf s (t j)) n
+      (λ j l. rw (getD-set-other counts n j 1 0 (λ z. omega arith)) (below s f j l))
+      (rw (getD-set-same counts n 1 0 (omega (arith, p .long))) (once s f));
+}
+  where
+    here : InRange (t n)
+    here = ranged n (omega arith)
+
+    e : ℕ
+    e = t n .period - t n .jitter
+
+    once : (s : ℕ) → s ≡ demandOf d t (n + 1) s → 1 ≤ activationsOf s (t n)
+    once s f = activations-some s (t n) here (omega (arith, demand-own d t s (n + 1)))
+
+    below : (s : ℕ) → s ≡ demandOf d t (n + 1) s → (j : ℕ) → j < n → getD counts j 0 ≤ activationsOf s (t j)
+    below s f j l =
+        let more = mul-le-mul-right (t n .weight) (once s f) in
+        let w = solution-under _ (demand-mono t n c (λ k m. ranged k (omega arith))) s
+        (omega (arith, demand-shift c d t s n, demand-next d t s n, more)) in
+        omega (arith, p .under (w .0) (w .2) j l, activations-mono (w .0) s (w .1) (t j) (t j) (no-more-self (t j) (ranged j (omega arith))))
+
+-- for terms of the same periods and jitters that ask for more they are counts to start from as well
+pub started-harder : (own n : ℕ) (t f : ℕ → Term) (counts ends : List ℕ) → ((j : ℕ) → j < n → InRange (t j))
+    → ((j : ℕ) → j < n → NoMore (t j) (f j)) → ((j : ℕ) → j < n → (f j .period ≡ t j .period) × (f j .jitter ≡ t j .jitter))
+    → Started own t n counts ends → Started own f n counts ends
+started-harder own n t f counts ends ranged more same p = record {
+  long = p .long;
+  ends-long = p .ends-long;
+  soon = p .soon;
+  holds = λ j l. rw (same j l .0, same j l .1) (p .holds j l);
+  under = under;
+}
+  where
+    under : (s : ℕ) → s ≡ demandOf own f n s → (j : ℕ) → j < n → getD counts j 0 ≤ activationsOf s (f j)
+    under s e j l =
+        let w = solution-under _ (demand-mono t n own ranged) s (omega (arith, demand-more t f n own more s)) in
+        omega (arith, p .under (w .0) (w .2) j l, activations-mono (w .0) s (w .1) (t j) (f j) (more j l))

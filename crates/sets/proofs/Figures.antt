@@ -2,9 +2,10 @@
 use mathlib.Core.Path.{_≡_, refl}
 use mathlib.Core.List.{[], _∷_}
 use Prim.Native.Nat.{_^_, _-_}
+use Rattle.hex.specs.Hex.{hexDigit, readHex}
 use Rattle.sets.specs.Sets.{_∩_, count, size}
 use Rattle.sets.specs.Words.{bitsOf, wordsOf}
-use Rattle.sets.specs.Field.{hexDigit, readHex, readSet}
+use Rattle.sets.specs.Field.{readSet}
 use Rattle.sets.specs.declared.SetField.the-variants.{Set, Bad}
 
 -- the field 3c of 8 sets

@@ -1,14 +1,16 @@
 // Sets of cache sets, as bits of four words. specs/Sets.antt says what a set, a union and a size are,
 // specs/Words.antt which set the words stand for, and specs/Field.antt what a text field says.
+use hex::Words;
 use units::Reloads;
 ghost use mathlib.Core.Path.{_≡_};
-ghost use Prim.Native.Nat.{_+_, _-_, _*_, _<_, _≤_};
+ghost use mathlib.Core.Bool.{true};
+ghost use Prim.Native.Nat.{_+_, _*_, _<_, _≤_};
 ghost use lib.Count.{ones};
 ghost use lib.ListN.{length};
 ghost use Rattle.sets.specs.Sets.{_∪_, _∩_, size};
 ghost use Rattle.sets.specs.Words.{members};
 ghost use Rattle.sets.specs.Stored.{heldAt, storedAt};
-ghost use Rattle.sets.specs.Field.{hexDigit, digitSays, readHex, wordSays, readSet};
+ghost use Rattle.sets.specs.Field.{readSet};
 
 // A set of cache sets: cache set s is bit s % 64 of word s / 64.
 pub struct CacheSet {
@@ -64,6 +66,24 @@ impl CacheSet {
         Reloads(ones_in(self.w0) + ones_in(self.w1) + ones_in(self.w2) + ones_in(self.w3))
     }
 
+    fn equals(self, other: CacheSet) -> bool
+        ensures { λ r. ⌜ (r ≡ true → members self ≡ members other) ⌝ }
+    {
+        (self.w0 == other.w0)
+            & (self.w1 == other.w1)
+            & (self.w2 == other.w2)
+            & (self.w3 == other.w3)
+    }
+
+    // The size of what it shares with another, where its own is known: that is it, where the other holds all of it.
+    pub fn shared_size(self, own: Reloads, other: CacheSet) -> Reloads
+        requires { ⌜ own .0 ≡ size (members self) ⌝ }
+        ensures { λ r. ⌜ r .0 ≡ size (members self ∩ members other) ⌝ }
+    {
+        let both = self.intersection(other);
+        if both.equals(self) { own } else { both.size() }
+    }
+
     // The set at position `k` of a list of words, four for each position.
     pub fn at(words: &[u64], k: usize) -> CacheSet
         requires { ⌜ 4 * k + 4 ≤ length (now words) ⌝ }
@@ -100,21 +120,7 @@ impl CacheSet {
         if field.len() as u64 != sets / 4 {
             return SetField::Bad;
         }
-        // A word has sixteen digits, counted from the end. Where the digits run out, the words above have none and are 0.
-        let end = field.len();
-        let to_w3 = less(end, 48);
-        let to_w2 = less(end, 32);
-        let to_w1 = less(end, 16);
-        let Word::Is(w3) = word_of(&field[0..to_w3]) else {
-            return SetField::Bad;
-        };
-        let Word::Is(w2) = word_of(&field[to_w3..to_w2]) else {
-            return SetField::Bad;
-        };
-        let Word::Is(w1) = word_of(&field[to_w2..to_w1]) else {
-            return SetField::Bad;
-        };
-        let Word::Is(w0) = word_of(&field[to_w1..end]) else {
+        let Words::Are(w3, w2, w1, w0) = hex::words_of(field) else {
             return SetField::Bad;
         };
         SetField::Set(CacheSet { w0, w1, w2, w3 })
@@ -126,49 +132,4 @@ fn ones_in(word: u64) -> u64
     ensures { λ r. ⌜ (r ≡ ones word) × (r ≤ 64) ⌝ }
 {
     u64::count_ones(word) as u64
-}
-
-// What a byte is as a hex digit.
-enum Digit {
-    Is(u64),
-    None,
-}
-
-fn digit_of(b: u8) -> Digit
-    ensures { λ r. ⌜ digitSays r ≡ hexDigit b ⌝ }
-{
-    match b {
-        b'0'..=b'9' => Digit::Is((b - b'0') as u64),
-        b'a'..=b'f' => Digit::Is((b - b'a' + 10) as u64),
-        _ => Digit::None,
-    }
-}
-
-// What up to sixteen bytes are as hex digits.
-enum Word {
-    Is(u64),
-    None,
-}
-
-fn word_of(part: &[u8]) -> Word
-    requires { ⌜ length (now part) ≤ 16 ⌝ }
-    ensures { λ r. ⌜ wordSays r ≡ readHex 0 (now (part .entry)) ⌝ }
-{
-    let mut word: u64 = 0;
-    let mut i = 0;
-    while i < part.len() {
-        let Digit::Is(digit) = digit_of(part[i]) else {
-            return Word::None;
-        };
-        word = word << 4 | digit;
-        i += 1;
-    }
-    Word::Is(word)
-}
-
-// What is left of `a` without `b`: 0 where `b` is more.
-fn less(a: usize, b: usize) -> usize
-    ensures { λ r. ⌜ r ≡ a - b ⌝ }
-{
-    if a <= b { 0 } else { a - b }
 }

@@ -1,32 +1,33 @@
 -- What is read is settled: it is a refusal, beside which the table is empty, or an acceptance of a table of which all that specs/Accepted.antt names holds.
 -- Assumes nothing.
-use Prim.Native.Nat.{ℕ, zero, suc, _+_, _%_, _≤_, _<_}
+use Prim.Native.Nat.{ℕ, _+_, _%_, _≤_, _<_}
 use mathlib.Core.Path.{_≡_, refl, sym, ap, _∙_}
-use mathlib.Core.Bool.{Bool, true, false, not, _||_, false≢true}
-use mathlib.Core.List.{List, [], _∷_, map}
+use mathlib.Core.Bool.{not}
+use mathlib.Core.List.{List, [], _∷_}
 use native.Mathlib.Decide.{decLt}
-use native.Mathlib.Nat.{not-suc-le-zero, le-of-suc-le-suc}
+use native.Mathlib.Nat.{not-suc-le-zero}
 use native.Mathlib.Omega.{arith}
-use borrow.Author.Tests.{eqb-false, eq-eqb}
-use lib.ListN.{length, getD, set, length-set, length-replicate}
+use borrow.Author.Tests.{eqb-false}
+use lib.ListN.{length, set, length-set, length-replicate}
 use lib.Seq.{getD-take, getD-set-same, getD-set-other, length-take-le}
-use Rattle.fields.specs.Bytes.{same}
 use Rattle.text.specs.Cut.{lines}
-use Rattle.table.specs.declared.Name.{Name}
-use Rattle.table.specs.declared.Task.{Task}
+use Rattle.tasks.specs.declared.Task.{Task}
+use Rattle.tasks.specs.Tasks.{nameOf, packName, blank, emptyTask}
+use Rattle.tasks.specs.Said.{headSaid, taskSaid}
+use Rattle.faults.specs.declared.Finding.{Finding}
+use Rattle.faults.specs.declared.Finding.the-variants.{Fine, Fault}
+use Rattle.faults.specs.Faults.{textFault, endFault}
+use Rattle.faults.proofs.Chain.{fine-row}
+use Rattle.faults.proofs.LineLaws.{TaskHolds, HeadHolds, head-holds, task-holds}
+use Rattle.faults.proofs.Known.{unknown}
 use Rattle.table.specs.declared.Table.{Table}
 use Rattle.table.specs.declared.Refusal.{Refusal}
 use Rattle.table.specs.declared.Outcome.{Outcome}
-use Rattle.table.specs.declared.Finding.{Finding}
-use Rattle.table.specs.declared.Finding.the-variants.{Fine, Fault}
 use Rattle.table.specs.declared.Verdict.the-variants.{Accepted, Refused}
-use Rattle.table.specs.Tasks.{nameOf, packName, blank, at, nameIn, namesOf, tasksOf, emptyTask, emptyTable, withTask}
-use Rattle.table.specs.Said.{headSaid, taskSaid}
-use Rattle.table.specs.Faults.{textFault, knows, endFault}
+use Rattle.table.specs.Tasks.{at, namesOf, tasksOf, emptyTable, withTask}
 use Rattle.table.specs.Reading.{refused, accepted, unlessFault, headTable, readFrom, readLines, readText}
 use Rattle.table.specs.Accepted.{AcceptedTask, AcceptedTable}
-use Rattle.table.proofs.Chain.{fine-row}
-use Rattle.table.proofs.LineLaws.{TaskHolds, HeadHolds, head-holds, task-holds, task-accepted, name-filled}
+use Rattle.table.proofs.AcceptedTasks.{task-accepted, name-filled}
 
 -- the tasks of a table with one more
 module _ (table : Table) (t : Task) where
@@ -42,25 +43,6 @@ module _ (table : Table) (t : Task) where
   at-last h =
       getD-take (table .count + 1) (set (table .tasks) (table .count) t) (table .count) blank (omega arith)
       ∙ getD-set-same (table .tasks) (table .count) t blank h
-
-same-self : (s : List ℕ) → same s s ≡ true
-unfolding same
-same-self [] = refl
-same-self (b ∷ s) = rw (eq-eqb b b refl) (same-self s)
-
-neither : (a b : Bool) → (a || b) ≡ false → (a ≡ false) × (b ≡ false)
-neither true b e = absurd (false≢true (sym e))
-neither false b e = (refl, e)
-
--- a name that is not known is that of none of the tasks
-unknown : (n : Name) (ts : List Task) (k : ℕ) → knows n (map nameIn ts) ≡ false → k < length ts → getD ts k blank .name ≡ n → ⊥
-unfolding knows
-unknown n [] k e h q = not-suc-le-zero h
-unknown n (t ∷ ts) zero e h q =
-    let p = neither (same (n .bytes) (t .name .bytes)) (knows n (map nameIn ts)) e .0 in
-    false≢true (sym p ∙ ap (λ (m : Name). same (n .bytes) (m .bytes)) q ∙ same-self (n .bytes))
-unknown n (t ∷ ts) (suc k) e h q =
-    unknown n ts k (neither (same (n .bytes) (t .name .bytes)) (knows n (map nameIn ts)) e .1) (le-of-suc-le-suc h) q
 
 -- what holds of a table while it is being read: all but that it has a task; and its names are filled up with zeros
 record Partly (table : Table) : Type 0 where

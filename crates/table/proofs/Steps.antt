@@ -4,17 +4,18 @@ use Prim.Native.Nat.{ℕ, _+_, _<_, _≤_}
 use mathlib.Core.Path.{_≡_, refl}
 use mathlib.Core.List.{List, [], _∷_}
 use native.Mathlib.Nat.{not-suc-le-zero}
+use borrow.Author.Tests.{eq-eqb, ne-eqb}
 use lib.ListN.{length}
 use Rattle.text.specs.Cut.{upTo, after, lines}
 use Rattle.text.proofs.Lines.{lines-step}
+use Rattle.tasks.specs.declared.TaskLine.{TaskLine}
+use Rattle.tasks.specs.Said.{headSaid, taskSaid}
+use Rattle.faults.specs.declared.Finding.{Finding}
+use Rattle.faults.specs.declared.Finding.the-variants.{Fine, Fault}
+use Rattle.faults.specs.Faults.{firstFault, textFault, headFault, taskFault, endFault}
 use Rattle.table.specs.declared.Table.{Table}
-use Rattle.table.specs.declared.TaskLine.{TaskLine}
-use Rattle.table.specs.declared.Finding.{Finding}
-use Rattle.table.specs.declared.Finding.the-variants.{Fine, Fault}
 use Rattle.table.specs.Tasks.{withTask, namesOf}
-use Rattle.table.specs.Said.{headSaid, taskSaid}
-use Rattle.table.specs.Faults.{textFault, headFault, taskFault}
-use Rattle.table.specs.Reading.{refused, finished, headTable, readFrom, readLines, readText}
+use Rattle.table.specs.Reading.{refused, accepted, finished, headTable, readFrom, readLines, readText}
 
 -- what the next line says, and what is found of it
 abbrev pub nextSaid : Table → List ℕ → TaskLine
@@ -33,10 +34,20 @@ module _ (line : ℕ) (table : Table) (rest : List ℕ) where
   unfolding readFrom
   read-stop number h e = rw (lines-step rest h, e)
 
-pub read-end : (line : ℕ) (table : Table) (rest : List ℕ) → length rest ≤ 0 → finished table ≡ readFrom line table (lines rest)
+read-end : (line : ℕ) (table : Table) (rest : List ℕ) → length rest ≤ 0 → finished table ≡ readFrom line table (lines rest)
 unfolding readFrom lines
 read-end line table [] h = refl
 read-end line table (b ∷ rest) h = absurd (not-suc-le-zero h)
+
+-- after the last line: refusal 11 where there is no task, and else the table
+module _ (line : ℕ) (table : Table) (rest : List ℕ) (h : length rest ≤ 0) where
+  pub end-stop : table .count ≡ 0 → refused 11 1 ≡ readFrom line table (lines rest)
+  unfolding endFault firstFault
+  end-stop e = simp (eq-eqb (table .count) 0 e) at (read-end line table rest h)
+
+  pub end-fine : (table .count ≡ 0 → ⊥) → accepted table ≡ readFrom line table (lines rest)
+  unfolding endFault firstFault
+  end-fine n = simp (ne-eqb (table .count) 0 n) at (read-end line table rest h)
 
 module _ (text : List ℕ) (h : 0 < length text) where
   pub head-step : headFault (headSaid (upTo 10 text)) ≡ Fine

@@ -2,24 +2,22 @@
 -- Assumes nothing.
 use Prim.Native.Nat.{ℕ, suc, _+_, _≤_}
 use mathlib.Core.Path.{_≡_, refl, ap}
-use mathlib.Core.Bool.{Bool, true, false, cond, not}
+use mathlib.Core.Bool.{Bool, true, false, cond}
 use mathlib.Core.List.{List, [], _∷_}
 use native.Mathlib.Omega.{arith}
-use borrow.Author.Tests.{ltb-false}
-use lib.Dec.{ltb, eqb}
+use lib.Dec.{eqb}
 use lib.ListN.{length}
 use Rattle.text.specs.Cut.{lead, lines}
-use Rattle.table.specs.declared.Name.{Name}
+use Rattle.tasks.specs.Said.{headSaid}
+use Rattle.faults.specs.declared.Finding.{Finding}
+use Rattle.faults.specs.declared.Finding.the-variants.{Fine, Fault}
+use Rattle.faults.specs.Faults.{textFault}
+use Rattle.faults.proofs.Small.{head-small, task-small, end-small, text-small}
+use Rattle.faults.proofs.LineLaws.{not-long}
 use Rattle.table.specs.declared.Table.{Table}
 use Rattle.table.specs.declared.Refusal.{Refusal}
 use Rattle.table.specs.declared.Outcome.{Outcome}
-use Rattle.table.specs.declared.HeadLine.{HeadLine}
-use Rattle.table.specs.declared.TaskLine.{TaskLine}
-use Rattle.table.specs.declared.Finding.{Finding}
-use Rattle.table.specs.declared.Finding.the-variants.{Fine, Fault}
 use Rattle.table.specs.declared.Verdict.the-variants.{Refused}
-use Rattle.table.specs.Faults.{Rows, firstFault, isEnded, textRows, textFault, headRows, headFault, taskRows, taskFault, endRows, endFault}
-use Rattle.table.specs.Said.{headSaid}
 use Rattle.table.specs.Reading.{refused, accepted, unlessFault, finished, readFrom, readLines, readText}
 
 -- a refusal of the outcome, if it is one, tells a number up to 11 and a line up to `most`
@@ -34,51 +32,6 @@ refused-told : (n line most : ℕ) → n ≤ 11 → line ≤ most → ToldBy mos
 refused-told n line most p q r e =
     let s : _≡_ {A = Refusal} (record { number = n; line = line }) r = cc in
     record { number = omega (arith, ap (λ (x : Refusal). x .number) s); line = omega (arith, ap (λ (x : Refusal). x .line) s) }
-
--- ---- the rows of a line
-
-abbrev Small : Rows → Type 0
-Small [] = Unit {0}
-Small (r ∷ rows) = (r .1 ≤ 11) × Small rows
-
-first-small : (rows : Rows) → Small rows → (n : ℕ) → firstFault rows ≡ Fault n → n ≤ 11
-unfolding firstFault
-first-small [] p n e = let z : _≡_ {A = ℕ} 0 1 = cc in absurd (omega arith)
-first-small (r ∷ rows) p n e = go (r .0) e (first-small rows (p .1) n)
-  where
-    go : (t : Bool) → cond t (Fault (r .1)) (firstFault rows) ≡ Fault n → (firstFault rows ≡ Fault n → n ≤ 11) → n ≤ 11
-    go true e h = let s : r .1 ≡ n = cc in omega (arith, p .0)
-    go false e h = h e
-
-head-small : (said : HeadLine) (n : ℕ) → headFault said ≡ Fault n → n ≤ 11
-unfolding headFault
-head-small said = first-small (headRows said) (omega arith, (omega arith, (omega arith, tt)))
-
-task-small : (count : ℕ) (names : List Name) (said : TaskLine) (n : ℕ) → taskFault count names said ≡ Fault n → n ≤ 11
-unfolding taskFault
-task-small count names said =
-    first-small (taskRows count names said)
-    (omega arith, (omega arith, (omega arith, (omega arith, (omega arith, (omega arith, (omega arith, (omega arith, tt))))))))
-
-end-small : (count n : ℕ) → endFault count ≡ Fault n → n ≤ 11
-unfolding endFault
-end-small count = first-small (endRows count) (omega arith, tt)
-
-text-small : (text : List ℕ) (n : ℕ) → textFault text ≡ Fault n → n ≤ 11
-unfolding textFault
-text-small text = first-small (textRows text) (omega arith, (omega arith, tt))
-
--- a condition is not met where there is no fault
-not-met : (t : Bool) (n : ℕ) (rows : Rows) → firstFault ((t, n) ∷ rows) ≡ Fine → t ≡ false
-unfolding firstFault
-not-met true n rows e = let z : _≡_ {A = ℕ} 0 1 = cc in absurd (omega arith)
-not-met false n rows e = refl
-
-not-long : (text : List ℕ) → textFault text ≡ Fine → length text ≤ 16384
-unfolding textFault
-not-long text e = ltb-false 16384 (length text) (not-met (ltb 16384 (length text)) 1 ((not (isEnded text), 2) ∷ []) e)
-
--- ---- line after line
 
 unless-told : (f : Finding) (line most : ℕ) (o : Outcome) → ((n : ℕ) → f ≡ Fault n → n ≤ 11) → line ≤ most → ToldBy most o
     → ToldBy most (unlessFault f line o)

@@ -6,9 +6,10 @@ use mathlib.Core.Path.{_≡_}
 use Rattle.fields.specs.Fields.{isName}
 use Rattle.sets.specs.Sets.{Set}
 use Rattle.sets.specs.Words.{members}
-use Rattle.table.specs.declared.Task.{Task}
+use Rattle.tasks.specs.declared.Task.{Task}
+use Rattle.tasks.specs.Tasks.{nameOf}
 use Rattle.table.specs.declared.Table.{Table}
-use Rattle.table.specs.Tasks.{nameOf, at}
+use Rattle.table.specs.Tasks.{at}
 
 -- every mark is below the number of cache sets
 abbrev pub MarksBelow : ℕ → Set → Type 0

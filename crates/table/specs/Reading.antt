@@ -3,15 +3,15 @@
 use Prim.Native.Nat.{ℕ, _+_}
 use mathlib.Core.List.{List, [], _∷_}
 use Rattle.text.specs.Cut.{lines}
+use Rattle.tasks.specs.declared.HeadLine.{HeadLine}
+use Rattle.tasks.specs.Said.{headSaid, taskSaid}
+use Rattle.faults.specs.declared.Finding.{Finding}
+use Rattle.faults.specs.declared.Finding.the-variants.{Fine, Fault}
+use Rattle.faults.specs.Faults.{textFault, headFault, taskFault, endFault}
 use Rattle.table.specs.declared.Table.{Table}
 use Rattle.table.specs.declared.Outcome.{Outcome}
-use Rattle.table.specs.declared.HeadLine.{HeadLine}
-use Rattle.table.specs.declared.Finding.{Finding}
-use Rattle.table.specs.declared.Finding.the-variants.{Fine, Fault}
 use Rattle.table.specs.declared.Verdict.the-variants.{Accepted, Refused}
 use Rattle.table.specs.Tasks.{newTable, emptyTable, withTask, namesOf}
-use Rattle.table.specs.Said.{headSaid, taskSaid}
-use Rattle.table.specs.Faults.{textFault, headFault, taskFault, endFault}
 
 -- a refusal has its number and its line, and beside it stands the empty table
 abbrev pub refused : ℕ → ℕ → Outcome

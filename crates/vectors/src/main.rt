@@ -1,11 +1,13 @@
 // Texts, each read, and what the reader answers: a refusal's number and line; or of a table that is accepted its cache sets, its
 // block reload time, how many tasks it has, and of the first its name, C, T, D, J, B and the sizes of UCB and ECB.
 use libc::STDOUT_FILENO;
-use table::Name;
 use table::Refusal;
 use table::Table;
 use table::Verdict;
-ghost use Prim.Native.Nat.{_<_};
+use tasks::Name;
+use tasks::Task;
+ghost use Prim.Native.Nat.{_+_, _≤_};
+ghost use lib.ListN.{length};
 
 fn say(bytes: &[u8]) {
     io::write_all(STDOUT_FILENO, bytes);
@@ -28,15 +30,10 @@ fn say_name(name: Name) {
     say(text::before(&bytes, 0));
 }
 
-fn say_table(table: Table) {
-    let t = table.tasks[0];
+fn say_task(t: Task) {
     let name = t.name;
     let ucb = t.ucb;
     let ecb = t.ecb;
-    say(b" accepted");
-    say_number(table.sets);
-    say_number(table.brt.0);
-    say_number(table.count as u64);
     say_name(name);
     say_number(t.work.0);
     say_number(t.period.0);
@@ -47,9 +44,16 @@ fn say_table(table: Table) {
     say_number(ecb.size().0);
 }
 
-fn show(what: &[u8], input: &[u8]) {
-    say(what);
-    say(b":");
+fn say_table(table: Table) {
+    let first = table.tasks[0];
+    say(b" accepted");
+    say_number(table.sets);
+    say_number(table.brt.0);
+    say_number(table.count as u64);
+    say_task(first);
+}
+
+fn say_answer(input: &[u8]) {
     let out = table::read(input);
     let verdict = out.verdict;
     let table = out.table;
@@ -57,220 +61,141 @@ fn show(what: &[u8], input: &[u8]) {
         Verdict::Accepted => say_table(table),
         Verdict::Refused(refusal) => say_refusal(refusal),
     }
+}
+
+// What a text is, and what the reader answers. The text is `tail` after `head`.
+fn show(what: &[u8], head: &[u8], tail: &[u8])
+    requires { ⌜ length (now head) + length (now tail) ≤ 20000 ⌝ }
+{
+    say(what);
+    say(b":");
+    let mut input = [0u8; 20000];
+    let middle = writer::put_bytes(&mut input, 0, head);
+    let end = writer::put_bytes(&mut input, middle, tail);
+    say_answer(&input[..end]);
     say(b"\n");
 }
 
-fn accepted() {
-    show(
-        b"three tasks",
-        b"K\t4\t1\nT\ta\t1\t20\t20\t0\t0\t0\tf\nT\tb\t2\t40\t40\t0\t0\t3\tf\nT\tc\t2\t60\t60\t0\t0\tc\tf\n",
-    );
-    show(
-        b"the largest numbers, J = D = T, a name of 12 bytes",
-        b"K\t256\t100000\nT\tabcdefgh-012\t250000000\t250000000\t250000000\t250000000\t250000000\t0123456789abcdef0123456789abcdef0123456789abcdef0123456789abcdef\tffffffffffffffffffffffffffffffffffffffffffffffffffffffffffffffff\n",
-    );
-    show(b"the smallest", b"K\t4\t0\nT\t-\t1\t1\t1\t0\t0\t0\t0\n");
-    show(b"C above D", b"K\t8\t1\nT\ta\t21\t20\t20\t0\t0\tff\t00\n");
-    show(
-        b"a name that starts another",
-        b"K\t4\t1\nT\ta\t1\t20\t20\t0\t0\t0\tf\nT\taa\t1\t20\t20\t0\t0\t0\tf\n",
-    );
-    show(
-        b"names of 12 bytes, the last differs",
-        b"K\t4\t1\nT\tabcdefghijkl\t1\t20\t20\t0\t0\t0\tf\nT\tabcdefghijkm\t1\t20\t20\t0\t0\t0\tf\n",
-    );
-}
-
-fn whole_text() {
-    show(b"nothing", b"");
-    show(b"no LF", b"K\t4\t1");
-    show(b"no LF at the end", b"K\t4\t1\nT\ta\t1\t20\t20\t0\t0\t0\tf");
-    show(b"no task line", b"K\t4\t1\n");
-    let mut long = [b'a'; 16385];
-    show(b"16,384 bytes without LF", &long[0..16384]);
-    show(b"16,385 bytes without LF", &long);
-    long[16384] = b'\n';
-    show(b"16,385 bytes", &long);
-    long[16383] = b'\n';
-    show(b"16,384 bytes", &long[0..16384]);
-}
-
-fn line_1() {
-    show(b"an empty line 1", b"\n");
-    show(b"a T on line 1", b"T\t4\t1\n");
-    show(b"a small k", b"k\t4\t1\n");
-    show(b"two letters", b"KK\t4\t1\n");
-    show(b"byte 255", b"\xff\t4\t1\n");
-    show(b"two fields", b"K\t4\n");
-    show(b"a tab at the end of line 1", b"K\t4\t1\t\n");
-    show(b"spaces", b"K 4 1\n");
-    show(b"3 before 5", b"T\tx\t1\n");
-    show(b"a leading zero", b"K\t007\t1\n");
-    show(b"an empty number", b"K\t\t1\n");
-    show(b"a sign", b"K\t4\t+1\n");
-    show(b"CR before LF on line 1", b"K\t4\t1\r\n");
-    show(b"byte 0", b"K\t4\x00\t1\n");
-    show(b"byte 128", b"K\t4\t1\x80\n");
-    show(b"ten digits", b"K\t1000000000\t1\n");
-    show(b"5 before 6", b"K\t6\tx\n");
-    show(b"nine digits", b"K\t999999999\t1\n");
-    show(b"6 sets", b"K\t6\t1\n");
-    show(b"no sets", b"K\t0\t1\n");
-    show(b"260 sets", b"K\t260\t1\n");
-    show(b"BRT above its range", b"K\t4\t100001\n");
-    show(b"line 1 before line 2", b"K\t4\t100001\nU\n");
-}
-
-fn shapes_and_names() {
-    show(b"an empty line 2", b"K\t4\t1\n\n");
-    show(
-        b"an empty last line",
-        b"K\t4\t1\nT\ta\t1\t20\t20\t0\t0\t0\tf\n\n",
-    );
-    show(b"a K on line 2", b"K\t4\t1\nK\t4\t1\n");
-    show(b"eight fields", b"K\t4\t1\nT\ta\t1\t20\t20\t0\t0\t0\n");
-    show(
-        b"a tab at the end of line 2",
-        b"K\t4\t1\nT\ta\t1\t20\t20\t0\t0\t0\tf\t\n",
-    );
-    show(b"3 before 4", b"K\t4\t1\nU\tA\t1\t20\t20\t0\t0\t0\tf\n");
-    show(b"an empty name", b"K\t4\t1\nT\t\t1\t20\t20\t0\t0\t0\tf\n");
-    show(
-        b"a name of 13 bytes",
-        b"K\t4\t1\nT\tabcdefgh-0123\t1\t20\t20\t0\t0\t0\tf\n",
-    );
-    show(b"a capital", b"K\t4\t1\nT\tA\t1\t20\t20\t0\t0\t0\tf\n");
-    show(
-        b"byte 0 in a name",
-        b"K\t4\t1\nT\ta\x00\t1\t20\t20\t0\t0\t0\tf\n",
-    );
-    show(
-        b"byte 200 in a name",
-        b"K\t4\t1\nT\ta\xc8\t1\t20\t20\t0\t0\t0\tf\n",
-    );
-    show(b"4 before 5", b"K\t4\t1\nT\tA\tx\t20\t20\t0\t0\t0\tf\n");
-}
-
-fn numbers() {
-    show(b"a bad C", b"K\t4\t1\nT\ta\t01\t20\t20\t0\t0\t0\tf\n");
-    show(b"a bad T", b"K\t4\t1\nT\ta\t1\t\t20\t0\t0\t0\tf\n");
-    show(b"a bad D", b"K\t4\t1\nT\ta\t1\t20\t2o\t0\t0\t0\tf\n");
-    show(b"a bad J", b"K\t4\t1\nT\ta\t1\t20\t20\t00\t0\t0\tf\n");
-    show(
-        b"5 before 6: C 0, a bad B",
-        b"K\t4\t1\nT\ta\t0\t20\t20\t0\t-\t0\tf\n",
-    );
-    show(b"C 0", b"K\t4\t1\nT\ta\t0\t20\t20\t0\t0\t0\tf\n");
-    show(b"T 0", b"K\t4\t1\nT\ta\t1\t0\t20\t0\t0\t0\tf\n");
-    show(b"D 0", b"K\t4\t1\nT\ta\t1\t20\t0\t0\t0\t0\tf\n");
-    show(
-        b"C above its range",
-        b"K\t4\t1\nT\ta\t250000001\t20\t20\t0\t0\t0\tf\n",
-    );
-    show(
-        b"6 before 7: T above its range",
-        b"K\t4\t1\nT\ta\t1\t250000001\t20\t0\t0\t0\tg\n",
-    );
-    show(
-        b"6 before 8: D above its range",
-        b"K\t4\t1\nT\ta\t1\t20\t250000001\t0\t0\t0\tf\n",
-    );
-    show(
-        b"6 before 8: J above its range",
-        b"K\t4\t1\nT\ta\t1\t20\t20\t250000001\t0\t0\tf\n",
-    );
-    show(
-        b"B above its range",
-        b"K\t4\t1\nT\ta\t1\t20\t20\t0\t250000001\t0\tf\n",
-    );
-    show(b"D above T", b"K\t4\t1\nT\ta\t1\t20\t21\t0\t0\t0\tf\n");
-    show(b"J above D", b"K\t4\t1\nT\ta\t1\t20\t20\t21\t0\t0\tf\n");
-}
-
-fn sets_and_order() {
-    show(b"a bad UCB", b"K\t4\t1\nT\ta\t1\t20\t20\t0\t0\tg\tf\n");
-    show(b"no ECB", b"K\t4\t1\nT\ta\t1\t20\t20\t0\t0\t0\t\n");
-    show(
-        b"a capital in ECB",
-        b"K\t4\t1\nT\ta\t1\t20\t20\t0\t0\t0\tF\n",
-    );
-    show(
-        b"two digits for 4 sets",
-        b"K\t4\t1\nT\ta\t1\t20\t20\t0\t0\t0\t0f\n",
-    );
-    show(
-        b"one digit for 8 sets",
-        b"K\t8\t1\nT\ta\t1\t20\t20\t0\t0\t0\tff\n",
-    );
-    show(
-        b"CR before LF on line 2",
-        b"K\t4\t1\nT\ta\t1\t20\t20\t0\t0\t0\tf\r\n",
-    );
-    show(b"7 before 8", b"K\t4\t1\nT\ta\t1\t20\t21\t0\t0\t0\tF\n");
-    show(
-        b"8 before 9",
-        b"K\t4\t1\nT\ta\t1\t20\t20\t0\t0\t0\tf\nT\ta\t1\t20\t21\t0\t0\t0\tf\n",
-    );
-    show(
-        b"a name again",
-        b"K\t4\t1\nT\ta\t1\t20\t20\t0\t0\t0\tf\nT\tb\t1\t20\t20\t0\t0\t0\tf\nT\ta\t1\t20\t20\t0\t0\t0\tf\n",
-    );
-    show(
-        b"line 2 before line 3",
-        b"K\t4\t1\nT\ta\t1\t20\t21\t0\t0\t0\tf\nU\n",
-    );
-}
-
-// A byte of a text of 33 task lines, of 21 bytes each below line 1, whose names are a0 to z0 and a1 to g1.
-fn byte_at(at: usize) -> u8
-    requires { ⌜ at < 699 ⌝ }
+// Shows texts that start with `head`. Of each the list has what it is, '|', what stands after `head`, and ';'.
+fn show_all(head: &[u8], list: &[u8])
+    requires { ⌜ length (now head) + length (now list) ≤ 20000 ⌝ }
 {
-    let head = b"K\t4\t1\n";
-    let line = b"T\ta0\t1\t20\t20\t0\t0\t0\tf\n";
-    if at < 6 {
-        return head[at];
+    let mut rest = list;
+    while 0 < rest.len() {
+        let entry = text::before(rest, b';');
+        let what = text::before(entry, b'|');
+        let tail = text::past(entry, b'|', what);
+        show(what, head, tail);
+        let next = text::past(rest, b';', entry);
+        rest = next;
     }
-    let row = (at - 6) / 21;
-    let column = (at - 6) % 21;
-    if column == 2 {
-        return b'a' + (row % 26) as u8;
-    }
-    if column == 3 {
-        return b'0' + (row / 26) as u8;
-    }
-    line[column]
-}
-
-fn task_lines() -> [u8; 699] {
-    let mut all = [0u8; 699];
-    let mut i = 0;
-    while i < 699 {
-        all[i] = byte_at(i);
-        i += 1;
-    }
-    all
-}
-
-fn many_lines() {
-    let mut all = task_lines();
-    show(b"32 task lines", &all[0..678]);
-    show(b"33 task lines", &all);
-    all[678] = b'U';
-    show(b"10 before 3", &all);
-    all[657] = b'U';
-    show(b"line 33 before line 34", &all);
-    let mut again = task_lines();
-    again[659] = b'a';
-    again[660] = b'0';
-    show(b"the first name again on line 33", &again);
 }
 
 fn main() {
-    accepted();
-    whole_text();
-    line_1();
-    shapes_and_names();
-    numbers();
-    sets_and_order();
-    many_lines();
+    // Tables that are accepted, and texts that are refused as a whole.
+    show_all(
+        b"",
+        b"three tasks|K\t4\t1\nT\ta\t1\t20\t20\t0\t0\t0\tf\nT\tb\t2\t40\t40\t0\t0\t3\tf\nT\tc\t2\t60\t60\t0\t0\tc\tf\n;\
+          the largest numbers, J = D = T, a name of 12 bytes|K\t256\t100000\nT\tabcdefgh-012\t250000000\t250000000\t250000000\t250000000\t250000000\t0123456789abcdef0123456789abcdef0123456789abcdef0123456789abcdef\tffffffffffffffffffffffffffffffffffffffffffffffffffffffffffffffff\n;\
+          the smallest|K\t4\t0\nT\t-\t1\t1\t1\t0\t0\t0\t0\n;\
+          C above D|K\t8\t1\nT\ta\t21\t20\t20\t0\t0\tff\t00\n;\
+          a name that starts another|K\t4\t1\nT\ta\t1\t20\t20\t0\t0\t0\tf\nT\taa\t1\t20\t20\t0\t0\t0\tf\n;\
+          names of 12 bytes, the last differs|K\t4\t1\nT\tabcdefghijkl\t1\t20\t20\t0\t0\t0\tf\nT\tabcdefghijkm\t1\t20\t20\t0\t0\t0\tf\n;\
+          nothing|;\
+          no LF|K\t4\t1;\
+          no LF at the end|K\t4\t1\nT\ta\t1\t20\t20\t0\t0\t0\tf;\
+          no task line|K\t4\t1\n;",
+    );
+    // Texts that are as long as may be, or longer by a byte.
+    show_all(
+        &[b'a'; 16383],
+        b"16,384 bytes without LF|a;\
+          16,385 bytes without LF|aa;\
+          16,385 bytes|a\n;\
+          16,384 bytes|\n;",
+    );
+    // Line 1, and then a task line: its shape, name, numbers, sets and order.
+    show_all(
+        b"",
+        b"an empty line 1|\n;\
+          a T on line 1|T\t4\t1\n;\
+          a small k|k\t4\t1\n;\
+          two letters|KK\t4\t1\n;\
+          byte 255|\xff\t4\t1\n;\
+          two fields|K\t4\n;\
+          a tab at the end of line 1|K\t4\t1\t\n;\
+          spaces|K 4 1\n;\
+          3 before 5|T\tx\t1\n;\
+          a leading zero|K\t007\t1\n;\
+          an empty number|K\t\t1\n;\
+          a sign|K\t4\t+1\n;\
+          CR before LF on line 1|K\t4\t1\r\n;\
+          byte 0|K\t4\x00\t1\n;\
+          byte 128|K\t4\t1\x80\n;\
+          ten digits|K\t1000000000\t1\n;\
+          5 before 6|K\t6\tx\n;\
+          nine digits|K\t999999999\t1\n;\
+          6 sets|K\t6\t1\n;\
+          no sets|K\t0\t1\n;\
+          260 sets|K\t260\t1\n;\
+          BRT above its range|K\t4\t100001\n;\
+          line 1 before line 2|K\t4\t100001\nU\n;\
+          an empty line 2|K\t4\t1\n\n;\
+          an empty last line|K\t4\t1\nT\ta\t1\t20\t20\t0\t0\t0\tf\n\n;\
+          a K on line 2|K\t4\t1\nK\t4\t1\n;\
+          eight fields|K\t4\t1\nT\ta\t1\t20\t20\t0\t0\t0\n;\
+          a tab at the end of line 2|K\t4\t1\nT\ta\t1\t20\t20\t0\t0\t0\tf\t\n;\
+          3 before 4|K\t4\t1\nU\tA\t1\t20\t20\t0\t0\t0\tf\n;\
+          an empty name|K\t4\t1\nT\t\t1\t20\t20\t0\t0\t0\tf\n;\
+          a name of 13 bytes|K\t4\t1\nT\tabcdefgh-0123\t1\t20\t20\t0\t0\t0\tf\n;\
+          a capital|K\t4\t1\nT\tA\t1\t20\t20\t0\t0\t0\tf\n;\
+          byte 0 in a name|K\t4\t1\nT\ta\x00\t1\t20\t20\t0\t0\t0\tf\n;\
+          byte 200 in a name|K\t4\t1\nT\ta\xc8\t1\t20\t20\t0\t0\t0\tf\n;\
+          4 before 5|K\t4\t1\nT\tA\tx\t20\t20\t0\t0\t0\tf\n;\
+          a bad C|K\t4\t1\nT\ta\t01\t20\t20\t0\t0\t0\tf\n;\
+          a bad T|K\t4\t1\nT\ta\t1\t\t20\t0\t0\t0\tf\n;\
+          a bad D|K\t4\t1\nT\ta\t1\t20\t2o\t0\t0\t0\tf\n;\
+          a bad J|K\t4\t1\nT\ta\t1\t20\t20\t00\t0\t0\tf\n;\
+          5 before 6: C 0, a bad B|K\t4\t1\nT\ta\t0\t20\t20\t0\t-\t0\tf\n;\
+          C 0|K\t4\t1\nT\ta\t0\t20\t20\t0\t0\t0\tf\n;\
+          T 0|K\t4\t1\nT\ta\t1\t0\t20\t0\t0\t0\tf\n;\
+          D 0|K\t4\t1\nT\ta\t1\t20\t0\t0\t0\t0\tf\n;\
+          C above its range|K\t4\t1\nT\ta\t250000001\t20\t20\t0\t0\t0\tf\n;\
+          6 before 7: T above its range|K\t4\t1\nT\ta\t1\t250000001\t20\t0\t0\t0\tg\n;\
+          6 before 8: D above its range|K\t4\t1\nT\ta\t1\t20\t250000001\t0\t0\t0\tf\n;\
+          6 before 8: J above its range|K\t4\t1\nT\ta\t1\t20\t20\t250000001\t0\t0\tf\n;\
+          B above its range|K\t4\t1\nT\ta\t1\t20\t20\t0\t250000001\t0\tf\n;\
+          D above T|K\t4\t1\nT\ta\t1\t20\t21\t0\t0\t0\tf\n;\
+          J above D|K\t4\t1\nT\ta\t1\t20\t20\t21\t0\t0\tf\n;\
+          a bad UCB|K\t4\t1\nT\ta\t1\t20\t20\t0\t0\tg\tf\n;\
+          no ECB|K\t4\t1\nT\ta\t1\t20\t20\t0\t0\t0\t\n;\
+          a capital in ECB|K\t4\t1\nT\ta\t1\t20\t20\t0\t0\t0\tF\n;\
+          two digits for 4 sets|K\t4\t1\nT\ta\t1\t20\t20\t0\t0\t0\t0f\n;\
+          one digit for 8 sets|K\t8\t1\nT\ta\t1\t20\t20\t0\t0\t0\tff\n;\
+          CR before LF on line 2|K\t4\t1\nT\ta\t1\t20\t20\t0\t0\t0\tf\r\n;\
+          7 before 8|K\t4\t1\nT\ta\t1\t20\t21\t0\t0\t0\tF\n;\
+          8 before 9|K\t4\t1\nT\ta\t1\t20\t20\t0\t0\t0\tf\nT\ta\t1\t20\t21\t0\t0\t0\tf\n;\
+          a name again|K\t4\t1\nT\ta\t1\t20\t20\t0\t0\t0\tf\nT\tb\t1\t20\t20\t0\t0\t0\tf\nT\ta\t1\t20\t20\t0\t0\t0\tf\n;\
+          line 2 before line 3|K\t4\t1\nT\ta\t1\t20\t21\t0\t0\t0\tf\nU\n;",
+    );
+    // 31 task lines, with the names a0 to z0 and a1 to e1, and what stands below them.
+    show_all(
+        b"K\t4\t1\n\
+          T\ta0\t1\t20\t20\t0\t0\t0\tf\nT\tb0\t1\t20\t20\t0\t0\t0\tf\nT\tc0\t1\t20\t20\t0\t0\t0\tf\n\
+          T\td0\t1\t20\t20\t0\t0\t0\tf\nT\te0\t1\t20\t20\t0\t0\t0\tf\nT\tf0\t1\t20\t20\t0\t0\t0\tf\n\
+          T\tg0\t1\t20\t20\t0\t0\t0\tf\nT\th0\t1\t20\t20\t0\t0\t0\tf\nT\ti0\t1\t20\t20\t0\t0\t0\tf\n\
+          T\tj0\t1\t20\t20\t0\t0\t0\tf\nT\tk0\t1\t20\t20\t0\t0\t0\tf\nT\tl0\t1\t20\t20\t0\t0\t0\tf\n\
+          T\tm0\t1\t20\t20\t0\t0\t0\tf\nT\tn0\t1\t20\t20\t0\t0\t0\tf\nT\to0\t1\t20\t20\t0\t0\t0\tf\n\
+          T\tp0\t1\t20\t20\t0\t0\t0\tf\nT\tq0\t1\t20\t20\t0\t0\t0\tf\nT\tr0\t1\t20\t20\t0\t0\t0\tf\n\
+          T\ts0\t1\t20\t20\t0\t0\t0\tf\nT\tt0\t1\t20\t20\t0\t0\t0\tf\nT\tu0\t1\t20\t20\t0\t0\t0\tf\n\
+          T\tv0\t1\t20\t20\t0\t0\t0\tf\nT\tw0\t1\t20\t20\t0\t0\t0\tf\nT\tx0\t1\t20\t20\t0\t0\t0\tf\n\
+          T\ty0\t1\t20\t20\t0\t0\t0\tf\nT\tz0\t1\t20\t20\t0\t0\t0\tf\nT\ta1\t1\t20\t20\t0\t0\t0\tf\n\
+          T\tb1\t1\t20\t20\t0\t0\t0\tf\nT\tc1\t1\t20\t20\t0\t0\t0\tf\nT\td1\t1\t20\t20\t0\t0\t0\tf\n\
+          T\te1\t1\t20\t20\t0\t0\t0\tf\n",
+        b"32 task lines|T\tf1\t1\t20\t20\t0\t0\t0\tf\n;\
+          33 task lines|T\tf1\t1\t20\t20\t0\t0\t0\tf\nT\tg1\t1\t20\t20\t0\t0\t0\tf\n;\
+          10 before 3|T\tf1\t1\t20\t20\t0\t0\t0\tf\nU\tg1\t1\t20\t20\t0\t0\t0\tf\n;\
+          line 33 before line 34|U\tf1\t1\t20\t20\t0\t0\t0\tf\nU\tg1\t1\t20\t20\t0\t0\t0\tf\n;\
+          the first name again on line 33|T\ta0\t1\t20\t20\t0\t0\t0\tf\nT\tg1\t1\t20\t20\t0\t0\t0\tf\n;",
+    );
 }

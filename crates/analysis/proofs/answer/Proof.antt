@@ -2,7 +2,7 @@
 use mathlib.Core.Path.{ap₂, _∙_}
 use native.Mathlib.Omega.{arith}
 use borrow.Author.Needs.{needs}
-use Rattle.response.specs.Least.{sooner}
+use Rattle.demand.specs.Least.{sooner}
 use Rattle.analysis.specs.Lists.{singleIn}
 use Rattle.analysis.proofs.AnswerLaws.{combined-at, combined-below}
 use Rattle.analysis.proofs.answer.Statement.{statement}

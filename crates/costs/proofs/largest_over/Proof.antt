@@ -5,11 +5,11 @@ use native.Mathlib.Omega.{arith}
 use borrow.Author.Needs.{needs}
 use Rattle.sets.specs.declared.CacheSet.{CacheSet}
 use Rattle.sets.specs.Sets.{size}
-use Rattle.response.specs.Positions.{between}
+use Rattle.demand.specs.Positions.{between}
 use Rattle.costs.specs.Gather.{largestOf}
 use Rattle.sets.specs.Words.{members}
 use Rattle.sets.specs.Stored.{setAt}
-use Rattle.response.proofs.PositionLaws.{none, next}
+use Rattle.demand.proofs.PositionLaws.{none, next}
 use Rattle.costs.proofs.largest_over.Statement.{statement}
 use Rattle.costs.proofs.largest_over.Tie as tie
 

@@ -6,10 +6,10 @@ use borrow.Author.Needs.{needs}
 use Rattle.sets.specs.declared.CacheSet.{CacheSet}
 use Rattle.sets.specs.Sets.{_∩_, size}
 use Rattle.sets.specs.Words.{members}
-use Rattle.response.specs.Positions.{between}
+use Rattle.demand.specs.Positions.{between}
 use Rattle.costs.specs.Gather.{largestOf}
 use Rattle.sets.specs.Stored.{setAt}
-use Rattle.response.proofs.PositionLaws.{none, next}
+use Rattle.demand.proofs.PositionLaws.{none, next}
 use Rattle.costs.proofs.largest_shared.Statement.{statement}
 use Rattle.costs.proofs.largest_shared.Tie as tie
 

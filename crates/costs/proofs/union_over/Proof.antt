@@ -7,8 +7,8 @@ use Rattle.sets.specs.Sets.{∅, _∪_}
 use Rattle.sets.specs.Words.{members}
 use Rattle.sets.specs.Stored.{setAt}
 use Rattle.sets.proofs.WordLaws.{members-empty}
-use Rattle.response.specs.Positions.{between}
-use Rattle.response.proofs.PositionLaws.{none, next}
+use Rattle.demand.specs.Positions.{between}
+use Rattle.demand.proofs.PositionLaws.{none, next}
 use Rattle.costs.specs.Gather.{unionOf}
 use Rattle.costs.proofs.union_over.Statement.{statement}
 use Rattle.costs.proofs.union_over.Tie as tie

@@ -4,8 +4,9 @@ use mathlib.Core.Path.{_≡_, ap, _∙_}
 use native.Mathlib.Omega.{arith}
 use lib.ListN.{getD}
 use Rattle.sets.specs.Stored.{setAt}
-use Rattle.costs.specs.Lent.{weightIn, front}
-use Rattle.costs.proofs.LentLaws.{front-none, front-next}
+use Rattle.demand.specs.Positions.{front}
+use Rattle.costs.specs.Lent.{weightIn}
+use Rattle.demand.proofs.FrontLaws.{front-none, front-next}
 use Rattle.costs.proofs.CostLaws.{reloads-most}
 use Rattle.costs.proofs.weights.Statement.{statement}
 use Rattle.costs.proofs.weights.Tie as tie

@@ -4,13 +4,12 @@ use mathlib.Core.Path.{_≡_, sym}
 use native.Mathlib.Omega.{arith}
 use lib.ListN.{getD}
 use Rattle.response.specs.Counts.{askedOf}
-use Rattle.response.proofs.DemandLaws.{asks-bound}
-use Rattle.response.proofs.CountLaws.{asked-none, asked-next}
+use Rattle.response.proofs.CountLaws.{asks-bound, asked-none, asked-next}
 use Rattle.response.proofs.asked.Statement.{statement}
 use Rattle.response.proofs.asked.Tie as tie
 
 abbrev Inv-loop : tie.InvT-loop
-Inv-loop own weights n counts sum₀ i₀ sum i = (i ≤ n) × (sum ≡ askedOf own weights counts i) × (sum ≤ own + i * 250000000000000000)
+Inv-loop own weights n counts sum₀ i₀ sum i = (i ≤ n) × (sum ≡ askedOf own weights counts i) × (sum ≤ own + i * 500000000000000000)
 
 abbrev μ-loop : tie.MeasureT-loop
 μ-loop own weights n counts sum₀ i₀ sum i = n - i
@@ -20,11 +19,11 @@ loop-holds c = (omega arith, sym (asked-none _ _ _), omega arith)
 
 -- what the term at i asks for
 asks : (c : tie.After-shared-slice-known Inv-loop μ-loop) → let l = c .before .before .before in
-    getD (l .before .args .counts .now) (l .loop .i) 0 * getD (l .before .args .weights .now) (l .loop .i) 0 ≤ 250000000000000000
+    getD (l .before .args .counts .now) (l .loop .i) 0 * getD (l .before .args .weights .now) (l .loop .i) 0 ≤ 500000000000000000
 asks c =
     let l = c .before .before .before in
     let p = l .before .pre in
-    asks-bound _ _ (p .4 .few (l .loop .i) (omega arith)) (p .3 (l .loop .i) (omega arith))
+    asks-bound _ _ (omega (arith, p .2 (l .loop .i) (omega arith))) (p .0 .weight (l .loop .i) (omega arith))
 
 mul-sum-3 : tie.Need-mul-sum-3 Inv-loop μ-loop
 mul-sum-3 c = omega (arith, asks c)

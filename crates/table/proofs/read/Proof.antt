@@ -3,10 +3,10 @@
 use mathlib.Core.Path.{_≡_, sym, _∙_}
 use borrow.Author.Needs.{needs}
 use denote.Ref.{now}
-use Rattle.table.specs.declared.Finding.the-variants.{Fine}
-use Rattle.table.specs.Faults.{textFault}
+use Rattle.faults.specs.declared.Finding.the-variants.{Fine}
+use Rattle.faults.specs.Faults.{textFault}
+use Rattle.faults.proofs.LineLaws.{not-empty}
 use Rattle.table.proofs.Steps.{text-step, text-stop}
-use Rattle.table.proofs.LineLaws.{not-empty}
 use Rattle.table.proofs.read.Statement.{statement}
 use Rattle.table.proofs.read.Tie as tie
 

@@ -4,8 +4,8 @@ use mathlib.Core.Path.{_≡_, sym, ap, _∙_}
 use borrow.Author.Needs.{needs}
 use denote.Ref.{now}
 use Rattle.text.specs.Cut.{upTo}
-use Rattle.table.specs.Said.{headSaid}
-use Rattle.table.specs.Faults.{headFault}
+use Rattle.tasks.specs.Said.{headSaid}
+use Rattle.faults.specs.Faults.{headFault}
 use Rattle.table.proofs.Steps.{head-step, head-stop}
 use Rattle.table.proofs.read_lines.Statement.{statement}
 use Rattle.table.proofs.read_lines.Tie as tie

@@ -6,21 +6,21 @@ use mathlib.Core.Path.{_≡_, sym, ap, ap₂, _∙_}
 use mathlib.Core.List.{List, map}
 use native.Mathlib.Omega.{arith}
 use borrow.Author.Needs.{needs}
-use borrow.Author.Tests.{eq-eqb, ne-eqb}
 use denote.Ref.{now}
 use lib.ListN.{length, take, set}
 use Rattle.text.specs.Cut.{lines}
 use Rattle.text.proofs.Parts.{after-shorter}
-use Rattle.table.specs.declared.Name.{Name}
+use Rattle.tasks.specs.declared.Name.{Name}
+use Rattle.tasks.specs.Tasks.{nameIn}
+use Rattle.tasks.specs.Said.{taskSaid}
+use Rattle.faults.specs.declared.Finding.the-variants.{Fine}
+use Rattle.faults.specs.Faults.{taskFault}
+use Rattle.faults.proofs.LineLaws.{task-holds}
 use Rattle.table.specs.declared.Table.{Table}
-use Rattle.table.specs.declared.Finding.the-variants.{Fine}
-use Rattle.table.specs.Tasks.{nameIn, newTable, withTask}
-use Rattle.table.specs.Said.{taskSaid}
-use Rattle.table.specs.Faults.{firstFault, taskFault, endFault}
+use Rattle.table.specs.Tasks.{newTable, withTask}
 use Rattle.table.specs.Reading.{readFrom}
 use Rattle.table.proofs.Lists.{set-map, take-map}
-use Rattle.table.proofs.Steps.{nextSaid, nextFault, read-step, read-stop, read-end}
-use Rattle.table.proofs.LineLaws.{task-holds}
+use Rattle.table.proofs.Steps.{nextSaid, nextFault, read-step, read-stop, end-stop, end-fine}
 use Rattle.table.proofs.read_tasks.Statement.{statement}
 use Rattle.table.proofs.read_tasks.Tie as tie
 
@@ -112,16 +112,14 @@ loop-again c =
     )
 
 returns-2 : tie.Need-returns-2 Inv-loop μ-loop
-unfolding endFault firstFault
 returns-2 c =
     let at = c .before .before .before in
-    c .refuse2 .ensures ∙ simp (eq-eqb _ _ (c .before .if1 .taken)) at (read-end (at .loop .line) (at .loop .table) (now (at .loop .rest)) (c .before .before .loop-test .left)) ∙ at .loop .inv .3
+    c .refuse2 .ensures ∙ end-stop (at .loop .line) (at .loop .table) (now (at .loop .rest)) (c .before .before .loop-test .left) (c .before .if1 .taken) ∙ at .loop .inv .3
 
 returns-3 : tie.Need-returns-3 Inv-loop μ-loop
-unfolding endFault firstFault
 returns-3 c =
     let at = c .before .before in
-    simp (ne-eqb _ _ (c .if1 .left)) at (read-end (at .loop .line) (at .loop .table) (now (at .loop .rest)) (c .before .loop-test .left)) ∙ at .loop .inv .3
+    end-fine (at .loop .line) (at .loop .table) (now (at .loop .rest)) (c .before .loop-test .left) (c .if1 .left) ∙ at .loop .inv .3
 
 pub read-tasks-spec : {M : Type 1} → statement M
 read-tasks-spec =

@@ -3,7 +3,7 @@ use mathlib.Core.Path.{ap}
 use Prim.Native.Nat.{ℕ}
 use native.Mathlib.Omega.{arith}
 use lib.ListN.{length}
-use Rattle.response.specs.declared.Response.{Response}
+use Rattle.demand.specs.declared.Response.{Response}
 use Rattle.report.specs.Report.{answerText}
 use borrow.Author.Needs.{needs}
 use Rattle.report.proofs.lines.put_answer.Statement.{statement}

@@ -6,7 +6,8 @@ use native.Mathlib.Omega.{arith}
 use borrow.Author.Needs.{needs}
 use lib.ListN.{length, getD}
 use lib.Seq.{getD-take}
-use Rattle.table.specs.Tasks.{blank, at}
+use Rattle.tasks.specs.Tasks.{blank}
+use Rattle.table.specs.Tasks.{at}
 use Rattle.writer.specs.Text.{flat}
 use Rattle.writer.specs.Wrote.{Wrote}
 use Rattle.writer.proofs.Writes.{_then_, nothing, reading}

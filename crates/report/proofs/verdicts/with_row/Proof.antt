@@ -7,7 +7,7 @@ use native.Mathlib.Omega.{arith}
 use borrow.Author.Needs.{needs}
 use lib.ListN.{length, take, getD, length-set}
 use lib.Seq.{take-all}
-use Rattle.response.specs.declared.Row.{Row}
+use Rattle.demand.specs.declared.Row.{Row}
 use Rattle.report.specs.Report.{below, hasResponse}
 use Rattle.report.specs.Rows.{answerIn}
 use Rattle.report.proofs.Lists.{filled-more}

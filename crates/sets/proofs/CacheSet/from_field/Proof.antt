@@ -1,84 +1,16 @@
--- `sets::CacheSet::from_field` meets its contract. Word by word, reading on from the number so far gives what the whole field gives.
--- Assumes nothing.
-use Prim.Native.Nat.{ℕ, _+_, _-_, _*_, _^_}
-use mathlib.Core.Path.{_≡_, sym, ap, _∙_, subst}
-use mathlib.Core.List.{List}
+-- `sets::CacheSet::from_field` meets its contract: the words that the digits say are those of the field's number. Assumes nothing.
+use Prim.Native.Nat.{ℕ}
+use mathlib.Core.Path.{_≡_, sym, ap, _∙_}
 use mathlib.Core.Option.{Option, none}
-use native.Mathlib.Omega.{arith}
-use lib.ListN.{length}
 use borrow.Author.Needs.{needs}
-use Rattle.sets.specs.Field.{readHex, ofNumber, readSet, wordSays}
+use Rattle.hex.specs.Hex.{wordsSay}
+use Rattle.sets.specs.Field.{ofNumber, readSet}
 use Rattle.sets.specs.declared.SetField.the-variants.{Set}
-use Rattle.sets.specs.declared.Word.{Word}
 use Rattle.sets.specs.Words.{number}
 use Rattle.sets.proofs.WordLaws.{words-number}
-use Rattle.sets.proofs.FieldLaws.{Reading, begin, ended, at-most-sixteen, no-word, word-more, too-many, wrong-length, right-length}
+use Rattle.sets.proofs.FieldLaws.{too-many, wrong-length, right-length}
 use Rattle.sets.proofs.CacheSet.from_field.Statement.{statement}
 use Rattle.sets.proofs.CacheSet.from_field.Tie as tie
-
--- ---- the field and where it is cut
-
-abbrev bytes : tie.After-less3 → List ℕ
-bytes s = s .before .before .before .before .before .before .args .field .now
-
-abbrev table-sets : tie.After-less3 → ℕ
-table-sets s = s .before .before .before .before .before .before .args .sets
-
-abbrev to-w3 : tie.After-less3 → ℕ
-to-w3 s = s .before .before .less .result
-
-abbrev to-w2 : tie.After-less3 → ℕ
-to-w2 s = s .before .less2 .result
-
-abbrev to-w1 : tie.After-less3 → ℕ
-to-w1 s = s .less3 .result
-
-cuts : (s : tie.After-less3) → (0 ≡ to-w3 s - 16) × (to-w3 s ≡ to-w2 s - 16) × (to-w2 s ≡ to-w1 s - 16) × (to-w1 s ≡ length (bytes s) - 16)
-cuts s = (search needs, search needs, search needs, search needs)
-
--- what the field says, once its digits say o
-answer : (s : tie.After-less3) (o : Option ℕ) → readHex 0 (bytes s) ≡ o → ofNumber o ≡ readSet (table-sets s) (bytes s)
-answer s o e = sym (right-length _ _ (search needs) (search needs) ∙ ap ofNumber e)
-
--- ---- the number read where each word is known
-
-said : {r r′ : Word} {o : Option ℕ} → wordSays r ≡ o → r ≡ r′ → o ≡ wordSays r′
-said e is = sym e ∙ ap wordSays is
-
-abbrev at-w3 : tie.After-known-told → tie.After-less3
-at-w3 c = c .before .before .before .before .before
-
-abbrev at-w2 : tie.After-known-told2 → tie.After-less3
-at-w2 c = at-w3 (c .before .before .before .before .before)
-
-abbrev at-w1 : tie.After-known-told3 → tie.After-less3
-at-w1 c = at-w2 (c .before .before .before .before .before)
-
-abbrev number3 : tie.After-known-told → ℕ
-number3 c = c .before .w3 .given .0 .0
-
-abbrev number2 : tie.After-known-told2 → ℕ
-number2 c = number3 (c .before .before .before .before .before) * 2 ^ 64 + c .before .w2 .given .0 .0
-
-abbrev number1 : tie.After-known-told3 → ℕ
-number1 c = number2 (c .before .before .before .before .before) * 2 ^ 64 + c .before .w1 .given .0 .0
-
-read-w3 : (c : tie.After-known-told) → Reading (bytes (at-w3 c)) (number3 c) (to-w3 (at-w3 c))
-read-w3 c =
-    subst (λ (n : ℕ). Reading (bytes (at-w3 c)) n (to-w3 (at-w3 c))) (omega arith)
-    (word-more (begin (bytes (at-w3 c))) (cuts (at-w3 c) .0) (search needs) _ (said (c .before .before .before .word-of .ensures) (c .before .w3 .given .1)))
-
-read-w2 : (c : tie.After-known-told2) → Reading (bytes (at-w2 c)) (number2 c) (to-w2 (at-w2 c))
-read-w2 c =
-    word-more (read-w3 (c .before .before .before .before .before)) (cuts (at-w2 c) .1) (search needs) _
-    (said (c .before .before .before .word-of2 .ensures) (c .before .w2 .given .1))
-
-read-w1 : (c : tie.After-known-told3) → Reading (bytes (at-w1 c)) (number1 c) (to-w1 (at-w1 c))
-read-w1 c =
-    word-more (read-w2 (c .before .before .before .before .before)) (cuts (at-w1 c) .2) (search needs) _
-    (said (c .before .before .before .word-of3 .ensures) (c .before .w1 .given .1))
-
--- ---- the answers
 
 returns : tie.Need-returns
 returns c = sym (too-many _ _ (search needs))
@@ -86,37 +18,16 @@ returns c = sym (too-many _ _ (search needs))
 returns-2 : tie.Need-returns-2
 returns-2 c = sym (wrong-length _ _ (search needs) (c .if2 .taken))
 
+-- what the field says, once its digits say o
+answer : (c : tie.After-words-of) (o : Option ℕ) → wordsSay (c .words-of .result) ≡ o → ofNumber o ≡ readSet (c .before .before .before .before .args .sets) (c .before .before .before .before .args .field .now)
+answer c o e = sym (right-length _ _ (search needs) (search needs) ∙ ap ofNumber (sym (c .words-of .ensures) ∙ e))
+
 returns-3 : tie.Need-returns-3
-returns-3 c =
-    let s = c .before .before .before .before in
-    answer s none (no-word (begin (bytes s)) (cuts s .0) (search needs) (said (c .before .before .word-of .ensures) (c .enum-told .given .1)))
+returns-3 c = answer (c .before .before) none (ap wordsSay (c .enum-told .given .1))
 
 returns-4 : tie.Need-returns-4
-returns-4 c =
-    let r = c .before .before .before .before in
-    answer (at-w3 r) none (no-word (read-w3 r) (cuts (at-w3 r) .1) (search needs) (said (c .before .before .word-of2 .ensures) (c .enum-told2 .given .1)))
-
-returns-5 : tie.Need-returns-5
-returns-5 c =
-    let r = c .before .before .before .before in
-    answer (at-w2 r) none (no-word (read-w2 r) (cuts (at-w2 r) .2) (search needs) (said (c .before .before .word-of3 .ensures) (c .enum-told3 .given .1)))
-
-word-of-requires-4 : tie.Need-word-of-requires-4
-word-of-requires-4 c κs =
-    let s = at-w1 (c .before) in
-    at-most-sixteen (bytes s) (to-w1 s) (length (bytes s)) (cuts s .3)
-
-returns-6 : tie.Need-returns-6
-returns-6 c =
-    let r = c .before .before .before .before in
-    answer (at-w1 r) none (no-word (read-w1 r) (cuts (at-w1 r) .3) (search needs) (said (c .before .before .word-of4 .ensures) (c .enum-told4 .given .1)))
-
-returns-7 : tie.Need-returns-7
 unfolding number
-returns-7 c =
-    let r = c .before .before .before .before .before in
-    let all = word-more (read-w1 r) (cuts (at-w1 r) .3) (search needs) _ (said (c .before .before .before .word-of4 .ensures) (c .before .w0 .given .1)) in
-    ap Set (sym (words-number _ (search needs))) ∙ answer (at-w1 r) _ (ended all (search needs))
+returns-4 c = ap Set (sym (words-number _ (search needs))) ∙ answer (c .before .before .before) _ (ap wordsSay (c .before .w3 .given .1))
 
 pub from-field-spec : {M : Type 1} → statement M
 from-field-spec =
@@ -125,34 +36,7 @@ from-field-spec =
     returns
     returns-2
     (λ c κs. search needs)
-    (λ c κs. search needs)
-    (λ c κs. search needs)
-    (λ c. search needs)
-    (λ c. search needs)
-    (λ c. search needs)
-    (λ c κs. search needs)
     (λ c. search needs)
     (λ c. search needs)
     returns-3
-    (λ c. search needs)
-    (λ c. search needs)
-    (λ c. search needs)
-    (λ c κs. search needs)
-    (λ c. search needs)
-    (λ c. search needs)
-    returns-4
-    (λ c. search needs)
-    (λ c. search needs)
-    (λ c. search needs)
-    (λ c κs. search needs)
-    (λ c. search needs)
-    (λ c. search needs)
-    returns-5
-    (λ c. search needs)
-    (λ c. search needs)
-    (λ c. search needs)
-    word-of-requires-4
-    (λ c. search needs)
-    (λ c. search needs)
-    returns-6
-    returns-7)
+    returns-4)

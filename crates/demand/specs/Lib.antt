@@ -1,0 +1,5 @@
+pub mod Positions
+pub mod Demand
+pub mod Flat
+pub mod Least
+pub mod Hasten

@@ -1,0 +1,4 @@
+pub mod Chain
+pub mod Known
+pub mod LineLaws
+pub mod Small

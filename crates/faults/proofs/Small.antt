@@ -1,0 +1,43 @@
+-- The refusals of a text and of its lines have numbers up to 11.
+-- Assumes nothing.
+use Prim.Native.Nat.{ℕ, _≤_}
+use mathlib.Core.Path.{_≡_}
+use mathlib.Core.Bool.{Bool, true, false, cond}
+use mathlib.Core.List.{List, [], _∷_}
+use native.Mathlib.Omega.{arith}
+use Rattle.tasks.specs.declared.Name.{Name}
+use Rattle.tasks.specs.declared.HeadLine.{HeadLine}
+use Rattle.tasks.specs.declared.TaskLine.{TaskLine}
+use Rattle.faults.specs.declared.Finding.the-variants.{Fault}
+use Rattle.faults.specs.Faults.{Rows, firstFault, textRows, textFault, headRows, headFault, taskRows, taskFault, endRows, endFault}
+
+abbrev Small : Rows → Type 0
+Small [] = Unit {0}
+Small (r ∷ rows) = (r .1 ≤ 11) × Small rows
+
+first-small : (rows : Rows) → Small rows → (n : ℕ) → firstFault rows ≡ Fault n → n ≤ 11
+unfolding firstFault
+first-small [] p n e = let z : _≡_ {A = ℕ} 0 1 = cc in absurd (omega arith)
+first-small (r ∷ rows) p n e = go (r .0) e (first-small rows (p .1) n)
+  where
+    go : (t : Bool) → cond t (Fault (r .1)) (firstFault rows) ≡ Fault n → (firstFault rows ≡ Fault n → n ≤ 11) → n ≤ 11
+    go true e h = let s : r .1 ≡ n = cc in omega (arith, p .0)
+    go false e h = h e
+
+pub head-small : (said : HeadLine) (n : ℕ) → headFault said ≡ Fault n → n ≤ 11
+unfolding headFault
+head-small said = first-small (headRows said) (omega arith, (omega arith, (omega arith, tt)))
+
+pub task-small : (count : ℕ) (names : List Name) (said : TaskLine) (n : ℕ) → taskFault count names said ≡ Fault n → n ≤ 11
+unfolding taskFault
+task-small count names said =
+    first-small (taskRows count names said)
+    (omega arith, (omega arith, (omega arith, (omega arith, (omega arith, (omega arith, (omega arith, (omega arith, tt))))))))
+
+pub end-small : (count n : ℕ) → endFault count ≡ Fault n → n ≤ 11
+unfolding endFault
+end-small count = first-small (endRows count) (omega arith, tt)
+
+pub text-small : (text : List ℕ) (n : ℕ) → textFault text ≡ Fault n → n ≤ 11
+unfolding textFault
+text-small text = first-small (textRows text) (omega arith, (omega arith, tt))

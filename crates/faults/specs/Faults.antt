@@ -1,0 +1,99 @@
+-- The refusals 1 to 11, each with its condition, in the order in which they are tried: those of the whole text, of line 1, of each task line, and
+-- at the end.
+-- Assumes nothing.
+use Prim.Native.Nat.{ℕ, _-_, _%_}
+use mathlib.Core.List.{List, [], _∷_}
+use mathlib.Core.Bool.{Bool, false, cond, not, _&&_, _||_}
+use lib.Dec.{ltb, leb, eqb}
+use lib.ListN.{length, getD}
+use Rattle.fields.specs.Bytes.{same}
+use Rattle.tasks.specs.declared.Name.{Name}
+use Rattle.tasks.specs.declared.Task.{Task}
+use Rattle.tasks.specs.declared.HeadLine.{HeadLine}
+use Rattle.tasks.specs.declared.TaskLine.{TaskLine}
+use Rattle.faults.specs.declared.Finding.{Finding}
+use Rattle.faults.specs.declared.Finding.the-variants.{Fine, Fault}
+
+-- conditions, each with the number of its refusal
+abbrev pub Rows : Type 0
+Rows = List (Bool × ℕ)
+
+-- the first refusal whose condition is met
+unfoldable pub firstFault : Rows → Finding
+firstFault [] = Fine
+firstFault (r ∷ rows) = cond (r .0) (Fault (r .1)) (firstFault rows)
+
+-- not empty, and its last byte is LF
+abbrev pub isEnded : List ℕ → Bool
+isEnded text = ltb 0 (length text) && eqb (getD text (length text - 1) 0) 10
+
+-- the whole text
+abbrev pub textRows : List ℕ → Rows
+textRows text =
+    (ltb 16384 (length text), 1)
+    ∷ (not (isEnded text), 2)
+    ∷ []
+
+unfoldable pub textFault : List ℕ → Finding
+textFault text = firstFault (textRows text)
+
+-- the number lies from low to high
+abbrev pub within : ℕ → ℕ → ℕ → Bool
+within low high n = leb low n && leb n high
+
+-- the ranges of line 1, and that the sets come in fours
+unfoldable pub headInRange : HeadLine → Bool
+headInRange said =
+    within 4 256 (said .sets) && eqb (said .sets % 4) 0 && within 0 100000 (said .brt)
+
+-- line 1
+abbrev pub headRows : HeadLine → Rows
+headRows said =
+    (not (said .shaped), 3)
+    ∷ (not (said .numbered), 5)
+    ∷ (not (headInRange said), 6)
+    ∷ []
+
+unfoldable pub headFault : HeadLine → Finding
+headFault said = firstFault (headRows said)
+
+-- the ranges of a task's times: J and B may be 0
+unfoldable pub taskInRange : Task → Bool
+taskInRange t =
+    within 1 250000000 (t .work .0)
+    && within 1 250000000 (t .period .0)
+    && within 1 250000000 (t .deadline .0)
+    && within 0 250000000 (t .jitter .0)
+    && within 0 250000000 (t .blocking .0)
+
+-- J ≤ D ≤ T
+unfoldable pub taskInOrder : Task → Bool
+taskInOrder t = leb (t .jitter .0) (t .deadline .0) && leb (t .deadline .0) (t .period .0)
+
+-- the name is one of these
+unfoldable pub knows : Name → List Name → Bool
+knows n [] = false
+knows n (m ∷ names) = same (n .bytes) (m .bytes) || knows n names
+
+-- a task line below `count` others, which have these names
+abbrev pub taskRows : ℕ → List Name → TaskLine → Rows
+taskRows count names said =
+    (leb 32 count, 10)
+    ∷ (not (said .shaped), 3)
+    ∷ (not (said .named), 4)
+    ∷ (not (said .numbered), 5)
+    ∷ (not (taskInRange (said .task)), 6)
+    ∷ (not (said .marked), 7)
+    ∷ (not (taskInOrder (said .task)), 8)
+    ∷ (knows (said .task .name) names, 9)
+    ∷ []
+
+unfoldable pub taskFault : ℕ → List Name → TaskLine → Finding
+taskFault count names said = firstFault (taskRows count names said)
+
+-- the end, after `count` task lines
+abbrev pub endRows : ℕ → Rows
+endRows count = (eqb count 0, 11) ∷ []
+
+unfoldable pub endFault : ℕ → Finding
+endFault count = firstFault (endRows count)

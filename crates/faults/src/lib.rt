@@ -1,0 +1,139 @@
+// When a text or one of its lines is refused: the number of the first refusal that applies.
+// specs/Faults.antt has the refusals as rows.
+use tasks::HeadLine;
+use tasks::Name;
+use tasks::Task;
+use tasks::TaskLine;
+ghost use mathlib.Core.Path.{_≡_};
+ghost use Prim.Native.Nat.{_≤_};
+ghost use lib.ListN.{take};
+ghost use Rattle.fields.specs.Bytes.{same};
+ghost use Rattle.faults.specs.Faults.{isEnded, textFault, within, headInRange, headFault, taskInRange, taskInOrder, knows, taskFault};
+
+// What the tests of a line, or of the whole text, find.
+pub enum Finding {
+    Fine,
+    Fault(u64),
+}
+
+// Whether the last byte is LF.
+fn is_ended(input: &[u8]) -> bool
+    ensures { λ r. ⌜ r ≡ isEnded (now (input .entry)) ⌝ }
+{
+    let n = input.len();
+    if 0 < n { input[n - 1] == b'\n' } else { false }
+}
+
+// The first refusal of the whole text, before its lines.
+pub fn text_fault(input: &[u8]) -> Finding
+    ensures { λ r. ⌜ r ≡ textFault (now (input .entry)) ⌝ }
+{
+    if 16384 < input.len() {
+        return Finding::Fault(1);
+    }
+    if !is_ended(input) {
+        return Finding::Fault(2);
+    }
+    Finding::Fine
+}
+
+fn is_within(low: u64, high: u64, n: u64) -> bool
+    ensures { λ r. ⌜ r ≡ within low high n ⌝ }
+{
+    (low <= n) & (n <= high)
+}
+
+fn head_in_range(said: HeadLine) -> bool
+    ensures { λ r. ⌜ r ≡ headInRange said ⌝ }
+{
+    is_within(4, 256, said.sets) & (said.sets % 4 == 0) & is_within(0, 100000, said.brt)
+}
+
+// The first refusal of line 1.
+pub fn head_fault(said: HeadLine) -> Finding
+    ensures { λ r. ⌜ r ≡ headFault said ⌝ }
+{
+    if !said.shaped {
+        return Finding::Fault(3);
+    }
+    if !said.numbered {
+        return Finding::Fault(5);
+    }
+    if !head_in_range(said) {
+        return Finding::Fault(6);
+    }
+    Finding::Fine
+}
+
+fn task_in_range(t: Task) -> bool
+    ensures { λ r. ⌜ r ≡ taskInRange t ⌝ }
+{
+    is_within(1, 250000000, t.work.0)
+        & is_within(1, 250000000, t.period.0)
+        & is_within(1, 250000000, t.deadline.0)
+        & is_within(0, 250000000, t.jitter.0)
+        & is_within(0, 250000000, t.blocking.0)
+}
+
+fn task_in_order(t: Task) -> bool
+    ensures { λ r. ⌜ r ≡ taskInOrder t ⌝ }
+{
+    (t.jitter.0 <= t.deadline.0) & (t.deadline.0 <= t.period.0)
+}
+
+fn same_name(a: Name, b: Name) -> bool
+    ensures { λ r. ⌜ r ≡ same (a .bytes) (b .bytes) ⌝ }
+{
+    let x = a.bytes;
+    let y = b.bytes;
+    fields::same_bytes(&x, &y)
+}
+
+// Whether the name is one of the first `count` of these.
+fn is_known(count: usize, names: [Name; 32], name: Name) -> bool
+    requires { ⌜ count ≤ 32 ⌝ }
+    ensures { λ r. ⌜ r ≡ knows name (take count names) ⌝ }
+{
+    let mut i = 0;
+    while i < count {
+        let other = names[i];
+        if same_name(name, other) {
+            return true;
+        }
+        i += 1;
+    }
+    false
+}
+
+// The first refusal of a task line below `count` others, of which `names` has the names.
+pub fn task_fault(count: usize, names: [Name; 32], said: TaskLine) -> Finding
+    ensures { λ r. ⌜ r ≡ taskFault count (take count names) said ⌝ }
+{
+    let task = said.task;
+    let name = task.name;
+    if 32 <= count {
+        return Finding::Fault(10);
+    }
+    if !said.shaped {
+        return Finding::Fault(3);
+    }
+    if !said.named {
+        return Finding::Fault(4);
+    }
+    if !said.numbered {
+        return Finding::Fault(5);
+    }
+    if !task_in_range(task) {
+        return Finding::Fault(6);
+    }
+    if !said.marked {
+        return Finding::Fault(7);
+    }
+    if !task_in_order(task) {
+        return Finding::Fault(8);
+    }
+    if is_known(count, names, name) {
+        return Finding::Fault(9);
+    }
+    Finding::Fine
+}

@@ -1,0 +1,53 @@
+-- The task of a line that is not refused: all that specs/Accepted.antt names of a task holds of it.
+-- Assumes nothing.
+use Prim.Native.Nat.{ℕ, _%_}
+use mathlib.Core.Path.{_≡_, refl}
+use mathlib.Core.Bool.{true, and-eq-true-iff, false≢true}
+use mathlib.Core.List.{List}
+use Rattle.text.specs.Cut.{field}
+use Rattle.fields.specs.Fields.{isName}
+use Rattle.sets.specs.declared.SetField.{SetField}
+use Rattle.sets.specs.declared.SetField.the-variants.{Set, Bad}
+use Rattle.sets.specs.Words.{members}
+use Rattle.sets.specs.Field.{readSet}
+use Rattle.sets.proofs.FieldLaws.{read-below}
+use Rattle.tasks.specs.declared.Name.{Name}
+use Rattle.tasks.specs.Tasks.{nameOf, packName}
+use Rattle.tasks.specs.Said.{isSet, setOf, fieldsSaid, taskSaid}
+use Rattle.tasks.proofs.Names.{name-kept}
+use Rattle.faults.proofs.LineLaws.{TaskHolds, ranges, order}
+use Rattle.table.specs.Accepted.{MarksBelow, AcceptedTask}
+
+marks-below : (sets : ℕ) (f : List ℕ) (r : SetField) → sets % 4 ≡ 0 → readSet sets f ≡ r → isSet r ≡ true → MarksBelow sets (members (setOf r))
+marks-below sets f (Set c) by-four e h = read-below sets f c by-four e
+marks-below sets f Bad by-four e h = absurd (false≢true h)
+
+-- the task of such a line may be taken, and its name is filled up with zeros
+module _ (sets : ℕ) (line : List ℕ) (count : ℕ) (names : List Name) (by-four : sets % 4 ≡ 0) (h : TaskHolds count names (taskSaid sets line)) where
+  is-name : isName (field 1 line) ≡ true
+  unfolding taskSaid fieldsSaid
+  is-name = h .named
+
+  marks : (isSet (readSet sets (field 7 line)) ≡ true) × (isSet (readSet sets (field 8 line)) ≡ true)
+  unfolding taskSaid fieldsSaid
+  marks = and-eq-true-iff _ _ .0 (h .marked)
+
+  pub task-accepted : AcceptedTask sets (taskSaid sets line .task)
+  unfolding taskSaid fieldsSaid
+  task-accepted =
+      let r = ranges (taskSaid sets line .task) (h .in-range) in
+      let o = order (taskSaid sets line .task) (h .in-order) in
+      record {
+        name = rw (name-kept (field 1 line) is-name) is-name;
+        work = r .work;
+        period = r .period;
+        deadline = (r .deadline .0, o .1);
+        jitter = o .0;
+        blocking = r .blocking;
+        ucb = marks-below sets (field 7 line) _ by-four refl (marks .0);
+        ecb = marks-below sets (field 8 line) _ by-four refl (marks .1);
+      }
+
+  pub name-filled : taskSaid sets line .task .name ≡ packName (nameOf (taskSaid sets line .task .name))
+  unfolding taskSaid fieldsSaid
+  name-filled = rw (name-kept (field 1 line) is-name)

@@ -1,0 +1,65 @@
+-- What a line says, field by field.
+-- Assumes nothing.
+use Prim.Native.Nat.{ℕ}
+use mathlib.Core.List.{List}
+use mathlib.Core.Bool.{Bool, true, false, _&&_}
+use Rattle.text.specs.Cut.{field}
+use Rattle.fields.specs.Fields.{isNumber, number, hasShape, isName}
+use Rattle.sets.specs.declared.CacheSet.{CacheSet}
+use Rattle.sets.specs.declared.SetField.{SetField}
+use Rattle.sets.specs.declared.SetField.the-variants.{Set, Bad}
+use Rattle.sets.specs.Field.{readSet}
+use Rattle.tasks.specs.declared.HeadLine.{HeadLine}
+use Rattle.tasks.specs.declared.TaskLine.{TaskLine}
+use Rattle.tasks.specs.Tasks.{packName, noSets}
+
+-- what line 1 says: after `K` the cache sets and the ticks that a block reload takes
+unfoldable pub headSaid : List ℕ → HeadLine
+headSaid line = record {
+  shaped = hasShape 75 3 line;
+  numbered = isNumber (field 1 line) && isNumber (field 2 line);
+  sets = number (field 1 line);
+  brt = number (field 2 line);
+}
+
+-- whether a field is a set of cache sets, and which (none of them where it is no set)
+abbrev pub isSet : SetField → Bool
+isSet (Set c) = true
+isSet Bad = false
+
+abbrev pub setOf : SetField → CacheSet
+setOf (Set c) = c
+setOf Bad = noSets
+
+-- what a task line says, field by field: after `T` the name, then C, T, D, J and B, and the two sets
+unfoldable pub fieldsSaid : ℕ → Bool → (name work period deadline jitter blocking ucb ecb : List ℕ) → TaskLine
+fieldsSaid sets shaped name work period deadline jitter blocking ucb ecb = record {
+  shaped = shaped;
+  named = isName name;
+  numbered = isNumber work && isNumber period && isNumber deadline && isNumber jitter && isNumber blocking;
+  marked = isSet (readSet sets ucb) && isSet (readSet sets ecb);
+  task = record {
+    name = packName name;
+    work = record { 0 = number work };
+    period = record { 0 = number period };
+    deadline = record { 0 = number deadline };
+    jitter = record { 0 = number jitter };
+    blocking = record { 0 = number blocking };
+    ucb = setOf (readSet sets ucb);
+    ecb = setOf (readSet sets ecb);
+  };
+}
+
+-- with its shape: nine fields, and `T` the first
+unfoldable pub taskSaid : ℕ → List ℕ → TaskLine
+taskSaid sets line =
+    fieldsSaid sets
+    (hasShape 84 9 line)
+    (field 1 line)
+    (field 2 line)
+    (field 3 line)
+    (field 4 line)
+    (field 5 line)
+    (field 6 line)
+    (field 7 line)
+    (field 8 line)
