@@ -16,7 +16,8 @@ use Rattle.table.specs.declared.Table.{Table}
 use Rattle.table.specs.Accepted.{AcceptedTable}
 use Rattle.demand.proofs.FrontLaws.{front-at}
 use Rattle.analysis.specs.Analysis.{limitOf, answerOf, responseOf, rowOf, rowsOf}
-use Rattle.report.specs.Rows.{noRow, answerIn, answersIn, InRange, Reportable}
+use Rattle.verdicts.specs.Rows.{noRow, answerIn, answersIn}
+use Rattle.report.specs.Rows.{InRange, Reportable}
 use Rattle.report.specs.Report.{reportOf}
 use Rattle.report.proofs.Agree.{report-agrees}
 use Rattle.crpd.specs.Operations.{reportIn}

@@ -21,7 +21,8 @@ use Rattle.demand.specs.Positions.{run, fold}
 use Rattle.costs.specs.Costs.{reloadsOf}
 use Rattle.analysis.specs.Analysis.{answerOf, responseOf}
 use Rattle.writer.specs.Text.{digits, spelled}
-use Rattle.report.specs.Report.{taskLine, verdictLine, reportOf}
+use Rattle.verdicts.specs.Verdicts.{verdictLine}
+use Rattle.report.specs.Report.{taskLine, reportOf}
 use Rattle.crpd.specs.Operations.{printed}
 
 -- K 4 1; T a 1 20 20 0 0 0 f; T b 2 40 40 0 0 3 f; T c 2 60 60 0 0 c f

@@ -1,6 +1,5 @@
 -- A report depends on nothing but the answers of its tasks under the six methods. Assumes nothing.
 use mathlib.Core.Path.{_≡_, ap, ap₂}
-use mathlib.Core.Bool.{Bool}
 use mathlib.Core.List.{List, [], _∷_, _++_}
 use Prim.Native.Nat.{ℕ, _<_}
 use Rattle.demand.specs.declared.Response.{Response}
@@ -9,19 +8,13 @@ use Rattle.tasks.specs.Tasks.{nameOf}
 use Rattle.table.specs.declared.Table.{Table}
 use Rattle.table.specs.Tasks.{at}
 use Rattle.writer.specs.Text.{spelled, line}
-use Rattle.report.specs.Report.{answerText, limitOf, hasResponse, taskLine, every, verdict, yesNo, verdictLine, reportOf}
-use Rattle.report.proofs.Lists.{map-agree, flat-agree}
+use Rattle.verdicts.proofs.Lists.{map-agree, flat-agree}
+use Rattle.verdicts.proofs.Agree.{verdict-line-agrees}
+use Rattle.report.specs.Report.{answerText, limitOf, taskLine, reportOf}
 
 task-line-agrees : (t : Task) (f g : ℕ → Response) → ((m : ℕ) → m < 6 → f m ≡ g m) → taskLine t f ≡ taskLine t g
 unfolding taskLine
 task-line-agrees t f g h = ap (λ (texts : List (List ℕ)). line (82 ∷ []) (nameOf (t .name) ∷ spelled (limitOf t) ∷ texts)) (map-agree (λ m. answerText (f m)) (λ m. answerText (g m)) 6 (λ m k. ap answerText (h m k)))
-
-verdict-line-agrees : (n : ℕ) (f g : ℕ → ℕ → Response) → ((m i : ℕ) → m < 6 → i < n → f m i ≡ g m i) → verdictLine n f ≡ verdictLine n g
-unfolding verdictLine
-verdict-line-agrees n f g h =
-    ap (λ (texts : List (List ℕ)). line (86 ∷ []) texts)
-    (map-agree (λ m. yesNo (verdict n (f m))) (λ m. yesNo (verdict n (g m))) 6
-    (λ m k. ap (λ (bs : List Bool). yesNo (every bs)) (map-agree (λ i. hasResponse (f m i)) (λ i. hasResponse (g m i)) n (λ i l. ap hasResponse (h m i k l)))))
 
 pub report-agrees : (table : Table) (f g : ℕ → ℕ → Response) → ((m i : ℕ) → m < 6 → i < table .count → f m i ≡ g m i) → reportOf table f ≡ reportOf table g
 unfolding reportOf

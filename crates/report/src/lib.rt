@@ -1,6 +1,5 @@
 // The report of a table.
 mod lines;
-mod verdicts;
 
 use delivery::Written;
 use delivery::deliver;
@@ -8,7 +7,8 @@ use demand::Row;
 use lines::put_task_lines;
 use table::Table;
 use verdicts::put_verdict_line;
-ghost use Rattle.report.specs.Rows.{answersIn, Reportable};
+ghost use Rattle.verdicts.specs.Rows.{answersIn};
+ghost use Rattle.report.specs.Rows.{Reportable};
 ghost use Rattle.report.specs.Reported.{Reported};
 
 // The report of a table, from the rows of its answers. It is written aside and delivered whole.

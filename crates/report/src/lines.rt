@@ -13,8 +13,10 @@ ghost use Rattle.tasks.specs.Tasks.{nameOf};
 ghost use Rattle.table.specs.Tasks.{at};
 ghost use Rattle.writer.specs.Text.{spelled, field, flat};
 ghost use Rattle.writer.specs.Wrote.{Wrote};
-ghost use Rattle.report.specs.Report.{below, answerText, limitOf, taskLine};
-ghost use Rattle.report.specs.Rows.{answerIn, answersIn, InRangeRow, Limited, Reportable};
+ghost use Rattle.verdicts.specs.Verdicts.{below};
+ghost use Rattle.report.specs.Report.{answerText, limitOf, taskLine};
+ghost use Rattle.verdicts.specs.Rows.{answerIn, answersIn};
+ghost use Rattle.report.specs.Rows.{InRangeRow, Limited, Reportable};
 
 fn put_answer(out: &mut [u8], at: usize, answer: Response) -> usize
     requires { ⌜ at + length (field (answerText answer)) ≤ length (now out) ⌝ }

@@ -22,7 +22,7 @@ use Rattle.table.specs.declared.Table.{Table}
 use Rattle.table.specs.Accepted.{AcceptedTable}
 use Rattle.costs.specs.Costs.{reloadsOf}
 use Rattle.costs.specs.Lent.{weightIn}
-use Rattle.costs.specs.Carried.{RowWeighed}
+use Rattle.carried.specs.Carried.{RowWeighed}
 use Rattle.demand.proofs.FrontLaws.{front-at, front-same}
 use Rattle.costs.proofs.OrderLaws.{ucb-union-least, ecb-union-least}
 use Rattle.analysis.specs.Analysis.{answerOf, withCombined, responseOf, methods, cell, rowOf, noRow, rowsOf}

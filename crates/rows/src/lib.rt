@@ -224,7 +224,7 @@ fn rows(
 {
     let mut above = [0u64; 128];
     let mut evicting = [0u64; 32];
-    costs::evictions(ecb, count, &mut above, &mut evicting);
+    carried::evictions(ecb, count, &mut above, &mut evicting);
     let mut most = [0u64; 32];
     let mut all = [0u64; 128];
     let mut shared = [0u64; 32];
@@ -238,7 +238,7 @@ fn rows(
     let mut ends = [0u64; 32];
     for i in 0..count {
         carry_on(owns, periods, jitters, works, i, &mut counts, &mut ends);
-        costs::weigh_row(
+        carried::weigh_row(
             works,
             ucb,
             ecb,

@@ -8,8 +8,8 @@ use lib.ListN.{length, length-replicate}
 use borrow.Author.Needs.{needs}
 use Rattle.demand.specs.Positions.{front}
 use Rattle.demand.specs.declared.Cell.{Cell}
-use Rattle.costs.specs.Carried.{Columns}
-use Rattle.costs.proofs.CarriedLaws.{columns-none, evictions-fewer}
+use Rattle.carried.specs.Carried.{Columns}
+use Rattle.carried.proofs.CarriedLaws.{columns-none, evictions-fewer}
 use Rattle.demand.proofs.FrontLaws.{front-none, front-next, front-long}
 use Rattle.analysis.specs.Analysis.{noRow}
 use Rattle.rows.specs.Rows.{rowIn, Left}

@@ -7,9 +7,10 @@ use lib.ListN.{length}
 use Rattle.writer.specs.Text.{field, flat}
 use Rattle.writer.specs.Wrote.{Wrote}
 use Rattle.writer.proofs.Writes.{_then_, nothing, reading}
-use Rattle.report.specs.Report.{below, answerText}
-use Rattle.report.specs.Rows.{answerIn}
-use Rattle.report.proofs.Lists.{flat-more}
+use Rattle.verdicts.specs.Verdicts.{below}
+use Rattle.report.specs.Report.{answerText}
+use Rattle.verdicts.specs.Rows.{answerIn}
+use Rattle.verdicts.proofs.Lists.{flat-more}
 use Rattle.report.proofs.Parts.{answer-short}
 use Rattle.report.proofs.lines.put_answers.Statement.{statement}
 use Rattle.report.proofs.lines.put_answers.Tie as tie

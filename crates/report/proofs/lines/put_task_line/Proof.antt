@@ -2,7 +2,7 @@
 use native.Mathlib.Omega.{arith}
 use borrow.Author.Needs.{needs}
 use Rattle.writer.proofs.Writes.{_then_, reading}
-use Rattle.report.specs.Rows.{answerIn}
+use Rattle.verdicts.specs.Rows.{answerIn}
 use Rattle.report.proofs.Parts.{task-parts}
 use Rattle.report.proofs.lines.put_task_line.Statement.{statement}
 use Rattle.report.proofs.lines.put_task_line.Tie as tie

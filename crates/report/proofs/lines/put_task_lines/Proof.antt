@@ -11,9 +11,10 @@ use Rattle.table.specs.Tasks.{at}
 use Rattle.writer.specs.Text.{flat}
 use Rattle.writer.specs.Wrote.{Wrote}
 use Rattle.writer.proofs.Writes.{_then_, nothing, reading}
-use Rattle.report.specs.Report.{below, taskLine}
-use Rattle.report.specs.Rows.{answersIn}
-use Rattle.report.proofs.Lists.{flat-more}
+use Rattle.verdicts.specs.Verdicts.{below}
+use Rattle.report.specs.Report.{taskLine}
+use Rattle.verdicts.specs.Rows.{answersIn}
+use Rattle.verdicts.proofs.Lists.{flat-more}
 use Rattle.report.proofs.lines.put_task_lines.Statement.{statement}
 use Rattle.report.proofs.lines.put_task_lines.Tie as tie
 
