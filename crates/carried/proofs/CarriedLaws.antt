@@ -1,10 +1,11 @@
 -- Facts about what is carried down the positions. Assumes nothing.
 use Prim.Native.Nat.{ℕ, _+_, _-_, _*_, _≤_, _<_, max}
-use native.Mathlib.Nat.{eq-or-lt-of-le, eq-zero-or-pos}
+use native.Mathlib.Nat.{eq-zero-or-pos}
 use native.Mathlib.Omega.{arith}
 use mathlib.Core.Path.{_≡_, refl, sym, ap, _∙_}
 use mathlib.Core.Logic.{_⊎_, inl, inr}
 use mathlib.Core.List.{List, []}
+use borrow.Author.Count.{below-more}
 use lib.ListN.{length, getD, set, replicate, length-set, length-replicate, getD-replicate}
 use lib.Seq.{getD-set-same, getD-set-other}
 use Rattle.sets.specs.declared.CacheSet.{CacheSet}
@@ -114,16 +115,11 @@ down-next ucb ecb most all shared i j r l d c = record {
   most-long = simp length-set (d .most-long);
   all-long = stored-long all j _ ∙ d .all-long;
   shared-long = simp length-set (d .shared-long);
-  past = λ k p. earlier k (eq-or-lt-of-le (omega arith));
+  past = below-more (λ k. ColumnAt ucb ecb k (i + 1) (set most j (r .most .0)) (storedAt all j (r .all)) (set shared j (r .shared .0))) j
+      (λ k p. rw (column-other most all shared j k r (λ y. omega arith)) (d .past k p))
+      (rw (column-same most all shared j r (omega (arith, d .most-long)) (omega (arith, d .all-long)) (omega (arith, d .shared-long))) c);
   ahead = λ k p s. rw (column-other most all shared j k r (λ z. omega arith)) (d .ahead k (omega arith) s);
 }
-  where
-    here : ColumnAt ucb ecb j (i + 1) (set most j (r .most .0)) (storedAt all j (r .all)) (set shared j (r .shared .0))
-    here = rw (column-same most all shared j r (omega (arith, d .most-long)) (omega (arith, d .all-long)) (omega (arith, d .shared-long))) c
-
-    earlier : (k : ℕ) → (k ≡ j) ⊎ (k < j) → ColumnAt ucb ecb k (i + 1) (set most j (r .most .0)) (storedAt all j (r .all)) (set shared j (r .shared .0))
-    earlier k (inl z) = rw z here
-    earlier k (inr z) = rw (column-other most all shared j k r (λ y. omega arith)) (d .past k z)
 
 -- all columns above row i are past it, and those below have nothing of it
 pub columns-next : (ucb ecb most all shared : List ℕ) (i : ℕ) → Down ucb ecb i i most all shared → Columns ucb ecb (i + 1) most all shared
@@ -150,17 +146,13 @@ pub evictions-next : (ecb above evicting : List ℕ) (j : ℕ) (all : CacheSet) 
 evictions-next ecb above evicting j all n h p a e = record {
   above-long = stored-long above j all ∙ p .above-long;
   evicting-long = simp length-set (p .evicting-long);
-  unions = λ k l. union k (eq-or-lt-of-le (omega arith));
-  sizes = λ k l. sized k (eq-or-lt-of-le (omega arith));
+  unions = below-more (λ k. setAt (storedAt above j all) k ≡ unionOf (setAt ecb) (hp (k + 1))) j
+      (λ k l. ap members (stored-other above j all k (λ y. omega arith)) ∙ p .unions k l)
+      (ap members (stored-same above j all (omega (arith, p .above-long))) ∙ a);
+  sizes = below-more (λ k. getD (set evicting j n) k 0 ≡ size (setAt ecb k)) j
+      (λ k l. getD-set-other evicting j k n 0 (λ y. omega arith) ∙ p .sizes k l)
+      (getD-set-same evicting j n 0 (omega (arith, p .evicting-long)) ∙ e);
 }
-  where
-    union : (k : ℕ) → (k ≡ j) ⊎ (k < j) → setAt (storedAt above j all) k ≡ unionOf (setAt ecb) (hp (k + 1))
-    union k (inl z) = rw z (ap members (stored-same above j all (omega (arith, p .above-long))) ∙ a)
-    union k (inr z) = ap members (stored-other above j all k (λ y. omega arith)) ∙ p .unions k z
-
-    sized : (k : ℕ) → (k ≡ j) ⊎ (k < j) → getD (set evicting j n) k 0 ≡ size (setAt ecb k)
-    sized k (inl z) = rw z (getD-set-same evicting j n 0 (omega (arith, p .evicting-long)) ∙ e)
-    sized k (inr z) = getD-set-other evicting j k n 0 (λ y. omega arith) ∙ p .sizes k z
 
 -- those of fewer tasks
 pub evictions-fewer : (ecb above evicting : List ℕ) (n k : ℕ) → k ≤ n → Evictions ecb n above evicting → Evictions ecb k above evicting

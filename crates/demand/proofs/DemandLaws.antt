@@ -7,7 +7,7 @@ use mathlib.Core.Path.{_≡_, refl, sym, ap, fun-ext}
 use mathlib.Core.Logic.{_↔_}
 use mathlib.Core.List.{List}
 use Rattle.demand.specs.declared.Response.the-variants.{Unschedulable}
-use Rattle.demand.specs.Positions.{hp}
+use Rattle.demand.specs.Positions.{hp, fold}
 use Rattle.demand.specs.Demand.{Term, ceil, activationsOf, workOf, demandOf, NoMore}
 use Rattle.demand.specs.Flat.{InRange, Handed}
 use Rattle.demand.specs.Least.{leastOf, NoLater}
@@ -108,6 +108,11 @@ demand-same own e f n p = fun-ext (λ r. fold-same _+_ own _ _ 0 (n - 0) (λ j _
 
 sum-grows : Grows _+_ _≤_
 sum-grows = record { same = λ x. omega arith; trans = λ x y w p q. omega arith; more = λ x y. omega arith; both = λ x y v w p q. omega arith }
+
+-- a sum of numbers that are each no more is no more
+pub sum-le : (own : ℕ) (a b : ℕ → ℕ) (n : ℕ) → ((j : ℕ) → j < n → a j ≤ b j) → fold _+_ own a (hp n) ≤ fold _+_ own b (hp n)
+sum-le own a b n p =
+    gathered sum-grows (λ k. k) (λ k. omega arith) own own (omega arith) a b 0 0 zero-le n n (λ j _ l. (l, p j l))
 
 -- it grows with the time, with the task's own work, and with what each term asks for
 demand-by : (place : ℕ → ℕ) → Rising place → (e f : ℕ → Term) (n c d r s : ℕ) → c ≤ d → r ≤ s

@@ -1,8 +1,7 @@
 -- Facts about the counts that are kept from turn to turn, and their ends. Assumes nothing.
-use Prim.Native.Nat.{ℕ, zero, suc, _+_, _-_, _*_, _≤_, _<_, zero-le}
+use Prim.Native.Nat.{ℕ, _+_, _-_, _*_, _≤_, _<_, zero-le}
 use native.Mathlib.Nat.{div-mul-le-self, le-antisymm, lt-of-not-le, mul-le-mul, mul-le-mul-left, mul-le-mul-right}
 use native.Mathlib.Decide.{decLe}
-use native.Mathlib.Numerals.{add-one}
 use native.Mathlib.Omega.{arith}
 use mathlib.Core.Path.{_≡_, refl, sym, ap, ap₂, _∙_}
 use mathlib.Core.Bool.{Bool, true, false}
@@ -21,7 +20,7 @@ use Rattle.demand.proofs.PositionLaws.{none, next, fold-same}
 use Rattle.demand.proofs.FrontLaws.{front-at, front-long}
 use Rattle.demand.proofs.LeastLaws.{solution-under, reached-below}
 use Rattle.demand.proofs.DemandLaws.{ceil-le, ceil-mul, ceil-is, ceil-most, activations-mono, activations-some, no-more-self}
-use Rattle.demand.proofs.DemandLaws.{demand-none, demand-next, demand-own, demand-shift, demand-same, demand-mono, demand-more}
+use Rattle.demand.proofs.DemandLaws.{sum-le, demand-next, demand-own, demand-shift, demand-same, demand-mono, demand-more}
 
 -- ---- the activations that are missing
 
@@ -84,27 +83,13 @@ module _ (own : ℕ) (ws : List ℕ) where
   module _ (ps js counts : List ℕ) (s : ℕ) where
     asked-under : (n : ℕ) → ((j : ℕ) → j < n → getD counts j 0 ≤ activationsOf s (flat ps js ws j))
         → askedOf own ws counts n ≤ demandOf own (flat ps js ws) n s
-    asked-under zero p = omega (arith, asked-none counts, demand-none own (flat ps js ws) s)
-    asked-under (suc n) p =
-        omega (
-          arith,
-          asked-under n (λ j l. p j (omega arith)),
-          mul-le-mul-right (getD ws n 0) (p n (omega arith)),
-          rw add-one at (asked-next counts n),
-          rw add-one at (demand-next own (flat ps js ws) s n),
-        )
+    unfolding askedOf demandOf
+    asked-under n p = sum-le own _ _ n (λ j l. mul-le-mul-right (getD ws j 0) (p j l))
 
     asked-over : (n : ℕ) → ((j : ℕ) → j < n → activationsOf s (flat ps js ws j) ≤ getD counts j 0)
         → demandOf own (flat ps js ws) n s ≤ askedOf own ws counts n
-    asked-over zero p = omega (arith, asked-none counts, demand-none own (flat ps js ws) s)
-    asked-over (suc n) p =
-        omega (
-          arith,
-          asked-over n (λ j l. p j (omega arith)),
-          mul-le-mul-right (getD ws n 0) (p n (omega arith)),
-          rw add-one at (asked-next counts n),
-          rw add-one at (demand-next own (flat ps js ws) s n),
-        )
+    unfolding askedOf demandOf
+    asked-over n p = sum-le own _ _ n (λ j l. mul-le-mul-right (getD ws j 0) (p j l))
 
   -- with one count more, which is new
   pub asked-raised : (counts : List ℕ) (i count : ℕ) → i < length counts

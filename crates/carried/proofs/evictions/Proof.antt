@@ -1,4 +1,4 @@
--- `costs::evictions` meets its contract: the unions and the sizes of the positions before j are put in. Assumes nothing.
+-- `carried::evictions` meets its contract: the unions and the sizes of the positions before j are put in. Assumes nothing.
 use Prim.Native.Nat.{_-_, _≤_}
 use mathlib.Core.Path.{_≡_, ap, _∙_}
 use native.Mathlib.Omega.{arith}

@@ -1,4 +1,4 @@
--- `costs::gather` meets its contract. Assumes nothing.
+-- `carried::gather` meets its contract. Assumes nothing.
 use Prim.Native.Nat.{ℕ, max}
 use mathlib.Core.Path.{ap, _∙_}
 use native.Mathlib.Omega.{arith}

@@ -1,4 +1,4 @@
--- `costs::put` meets its contract. Assumes nothing.
+-- `carried::put` meets its contract. Assumes nothing.
 use lib.ListN.{length-set}
 use borrow.Author.Needs.{needs}
 use Rattle.carried.proofs.put.Statement.{statement}

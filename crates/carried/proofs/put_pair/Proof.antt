@@ -1,4 +1,4 @@
--- `costs::put_pair` meets its contract: each method's weight is put into its place. Assumes nothing.
+-- `carried::put_pair` meets its contract: each method's weight is put into its place. Assumes nothing.
 use mathlib.Core.Path.{ap, _∙_}
 use native.Mathlib.Omega.{arith}
 use borrow.Author.Needs.{needs}

@@ -1,4 +1,4 @@
--- `costs::weigh_row` meets its contract: the columns before j are carried past row i, and their weights are put in. Assumes nothing.
+-- `carried::weigh_row` meets its contract: the columns before j are carried past row i, and their weights are put in. Assumes nothing.
 use Prim.Native.Nat.{_-_, _≤_}
 use mathlib.Core.Path.{_≡_, sym, ap, _∙_}
 use native.Mathlib.Omega.{arith}
