@@ -1,31 +1,32 @@
--- What the code hands to the iteration is what the definition names. Assumes nothing.
-use Prim.Native.Nat.{ℕ, _+_, _*_, _≤_, _<_}
+-- What an answer means, and that the answers of a board are those of its table. Assumes nothing.
+use Prim.Native.Nat.{ℕ, _≤_, _<_}
 use native.Mathlib.Omega.{arith}
-use mathlib.Core.Path.{_≡_, refl, ap, ap₂, _∙_}
+use mathlib.Core.Path.{_≡_, refl, sym, ap, ap₂, _∙_}
 use mathlib.Core.Bool.{Bool, true, false, cond}
 use mathlib.Core.List.{List}
 use lib.Dec.{eqb}
-use lib.ListN.{length, getD}
+use lib.ListN.{getD, take, drop, length-take, length-drop}
+use lib.Seq.{getD-take, getD-drop}
 use borrow.Author.Tests.{eq-eqb, ne-eqb, eqb-false}
-use Rattle.sets.specs.Words.{members}
-use Rattle.sets.specs.Stored.{setAt}
 use Rattle.demand.specs.declared.Response.{Response}
+use Rattle.demand.specs.Positions.{front}
 use Rattle.demand.specs.Demand.{demandOf}
-use Rattle.demand.specs.Flat.{flat, Handed}
+use Rattle.demand.specs.Terms.{termIn, Handed}
 use Rattle.demand.specs.Least.{leastOf, LeastWithin, sooner}
+use Rattle.demand.proofs.FrontLaws.{front-at, front-long}
 use Rattle.demand.proofs.LeastLaws.{leastOf-least}
 use Rattle.demand.proofs.DemandLaws.{demand-same}
+use Rattle.tasks.specs.Tasks.{ownOf, limitOf}
 use Rattle.table.specs.declared.Table.{Table}
-use Rattle.table.specs.Accepted.{AcceptedTable}
-use Rattle.costs.specs.Costs.{ucb, ecb, reloadsOf, termAt}
-use Rattle.costs.specs.Lent.{Lent, weightIn}
-use Rattle.demand.proofs.FrontLaws.{front-at, front-long}
-use Rattle.costs.proofs.OrderLaws.{reloads-same, term-ranged}
-use Rattle.analysis.specs.Analysis.{ownOf, limitOf, answerOf, withCombined, responseOf}
-use Rattle.analysis.specs.Lists.{Numbers, Sets, leastIn, weightsIn, singleIn, TaskHanded}
+use Rattle.table.specs.Tasks.{at}
+use Rattle.board.specs.Board.{workOn, ownOn, limitOn, BoardOf, Lent}
+use Rattle.board.proofs.LentLaws.{lent-few, lent-long}
+use Rattle.costs.specs.Costs.{reloadsOf, weightOn, termAt}
+use Rattle.costs.proofs.BoardLaws.{term-is, terms-in, lent-handed}
+use Rattle.analysis.specs.Analysis.{answerOf, answerOn, withCombined, responseOf}
 
 -- what an answer means
-pub answer-means : (table : Table) (m i : ℕ) → LeastWithin (demandOf (ownOf table i) (termAt table m i) i) (limitOf table i) (answerOf table m i)
+pub answer-means : (table : Table) (m i : ℕ) → LeastWithin (demandOf (ownOf (at table i)) (termAt table m i) i) (limitOf (at table i)) (answerOf table m i)
 unfolding answerOf
 answer-means table m i = leastOf-least _ _
 
@@ -47,94 +48,61 @@ combined-same A B m h p = go (eqb m 5) refl
         below : (m ≡ 5 → ⊥) → m ≤ 4
         below n = omega arith
 
--- ---- the answer by lists
+-- ---- the answers of a board
 
--- what is lent of the first k tasks
-pub lent : (table : Table) → AcceptedTable table → (n k : ℕ) → k ≤ n → n ≤ table .count → (ps js ws os ls : List ℕ) → Numbers table n ps js ws os ls
-    → (us es : List ℕ) → Sets table n us es → Lent ws us es (table .brt .0) k
-lent table accepted n k h held ps js ws os ls numbers us es sets =
-    let few = accepted .few in
-    record {
-      few = omega arith;
-      brt-most = accepted .brt;
-      works-long = omega (arith, numbers .work .long);
-      ucb-long = omega (arith, sets .ucb-long);
-      ecb-long = omega (arith, sets .ecb-long);
-      works-most = λ j l. rw (numbers .work .each j (omega arith)) (accepted .tasks j (omega arith) .work .1);
-    }
+module _ (table : Table) (n : ℕ) (board : List ℕ) (is : BoardOf table n board) (i : ℕ) (here : i < n) where
+  pub answer-is : (m : ℕ) → answerOn board m i ≡ answerOf table m i
+  unfolding answerOn answerOf
+  answer-is m =
+      rw (is .tasks i here .own, is .tasks i here .limit)
+      (ap (λ (f : ℕ → ℕ). leastOf f (limitOf (at table i)))
+      (demand-same (ownOf (at table i)) _ _ i (λ j l. term-is table n board is m i j here l)))
 
--- C of j and the time of its reloads
-abbrev weightAt : Table → ℕ → ℕ → ℕ → ℕ
-weightAt table m i j = termAt table m i j .weight
-
-module _ (table : Table) (accepted : AcceptedTable table) (n i : ℕ) (here : i < n) (held : n ≤ table .count) (ps js ws os ls : List ℕ)
-    (numbers : Numbers table n ps js ws os ls) where
-  term-is : (m : ℕ) (vs : List ℕ) → ((j : ℕ) → j < i → getD vs j 0 ≡ weightAt table m i j) → (j : ℕ) → j < i → flat ps js vs j ≡ termAt table m i j
-  term-is m vs e j l = rw (numbers .period .each j (omega arith), numbers .jitter .each j (omega arith), e j l)
-
-  handed-by : (m : ℕ) (vs : List ℕ) → ((j : ℕ) → j < i → getD vs j 0 ≡ weightAt table m i j) → i ≤ length vs
-      → Handed (getD os i 0) ps js vs i (getD ls i 0)
-  handed-by m vs e l =
-      let few = accepted .few in
-      let q = accepted .tasks i (omega arith) in
-      let o = numbers .own .each i here in
-      let d = numbers .limit .each i here in
-      record {
-        few = omega arith;
-        own-least = omega (arith, q .work, q .blocking);
-        own-most = omega (arith, q .work, q .blocking);
-        time = omega (arith, q .deadline, q .period);
-        periods = omega (arith, numbers .period .long);
-        jitters = omega (arith, numbers .jitter .long);
-        weights = l;
-        ranged = λ j h. rw (term-is m vs e j h) (term-ranged table m i j accepted (omega arith));
-      }
-
-  least-by : (m : ℕ) (vs : List ℕ) → ((j : ℕ) → j < i → getD vs j 0 ≡ weightAt table m i j)
-      → leastIn (getD os i 0) (getD ls i 0) i ps js vs ≡ answerOf table m i
-  unfolding leastIn answerOf
-  least-by m vs e =
-      rw (numbers .own .each i here, numbers .limit .each i here)
-      (ap (λ (f : ℕ → ℕ). leastOf f (limitOf table i)) (demand-same (ownOf table i) _ _ i (term-is m vs e)))
-
-  -- method 0 needs no sets
-  plain : (j : ℕ) → j < i → getD ws j 0 ≡ weightAt table 0 i j
-  unfolding reloadsOf
-  plain j l = numbers .work .each j (omega arith) ∙ omega arith
-
-  pub plain-handed : Handed (getD os i 0) ps js ws i (getD ls i 0)
-  plain-handed = let few = accepted .few in handed-by 0 ws plain (omega (arith, numbers .work .long))
-
-  pub plain-is : (m : ℕ) → m ≡ 0 → leastIn (getD os i 0) (getD ls i 0) i ps js ws ≡ responseOf table m i
+  pub response-is : (m : ℕ) → m ≤ 5 → withCombined (λ k. answerOn board k i) m ≡ responseOf table m i
   unfolding responseOf
-  plain-is m e = least-by 0 ws plain ∙ rw e (combined-below (λ k. answerOf table k i) 0 (omega arith))
+  response-is m h = combined-same (λ k. answerOn board k i) (λ k. answerOf table k i) m h (λ k l. answer-is k)
 
-  module _ (us es : List ℕ) (sets : Sets table n us es) where
-    weight-is : (m j : ℕ) → j < i → weightIn ws (table .brt .0) us es m i j ≡ weightAt table m i j
-    weight-is m j l =
-        ap₂ (λ (c g : ℕ). c + table .brt .0 * g) (numbers .work .each j (omega arith))
-        (reloads-same (setAt us) (setAt es) (ucb table) (ecb table) m i j l
-        (λ k h. ap members (sets .ucbs k (omega arith)))
-        (λ k h. ap members (sets .ecbs k (omega arith))))
+-- by a list of the weights that the board gives
+module _ {board : List ℕ} {n : ℕ} (lent : Lent board n) (m i : ℕ) (here : i < n) where
+  pub answer-by-weights : (ws : List ℕ) → ((j : ℕ) → j < i → getD ws j 0 ≡ weightOn board m i j)
+      → leastOf (demandOf (ownOn board i) (termIn board ws) i) (limitOn board i) ≡ answerOn board m i
+  unfolding answerOn
+  answer-by-weights ws each = ap (λ (f : ℕ → ℕ). leastOf f (limitOn board i)) (demand-same (ownOn board i) _ _ i (terms-in lent m i here ws each))
 
-    -- ---- one task
+  -- which the code makes,
+  abbrev pub weightsOn : List ℕ
+  weightsOn = front 0 (weightOn board m i) i
 
-    weights-are : (m j : ℕ) → j < i → getD (weightsIn ws us es (table .brt .0) i m) j 0 ≡ weightAt table m i j
-    weights-are m j l = front-at 0 _ i j 0 l ∙ weight-is m j l
+  weights-are : (j : ℕ) → j < i → getD weightsOn j 0 ≡ weightOn board m i j
+  weights-are j l = front-at 0 (weightOn board m i) i j 0 l
 
-    pub task-handed : TaskHanded (getD os i 0) (getD ls i 0) i ps js ws us es (table .brt .0)
-    task-handed =
-        let few = accepted .few in
-        record {
-          lent = lent table accepted n (i + 1) (omega arith) held ps js ws os ls numbers us es sets;
-          handed = λ m h. handed-by m _ (weights-are m) (omega (arith, front-long 0 (weightIn ws (table .brt .0) us es m i) i (omega arith)));
-        }
+  pub weights-handed : Handed (ownOn board i) board weightsOn i (limitOn board i)
+  weights-handed =
+      let few = lent-few lent in
+      lent-handed lent m i here weightsOn weights-are (omega (arith, front-long 0 (weightOn board m i) i (omega arith)))
 
-    pub single-is : (m : ℕ) → singleIn (getD os i 0) (getD ls i 0) i ps js ws us es (table .brt .0) m ≡ answerOf table m i
-    single-is m = least-by m _ (weights-are m)
+  pub answer-by-front : leastOf (demandOf (ownOn board i) (termIn board weightsOn) i) (limitOn board i) ≡ answerOn board m i
+  answer-by-front = answer-by-weights weightsOn weights-are
 
-    pub response-is : (m : ℕ) → m ≤ 5
-        → withCombined (singleIn (getD os i 0) (getD ls i 0) i ps js ws us es (table .brt .0)) m ≡ responseOf table m i
-    unfolding responseOf
-    response-is m h =
-        combined-same (singleIn (getD os i 0) (getD ls i 0) i ps js ws us es (table .brt .0)) (λ k. answerOf table k i) m h (λ k l. single-is k)
+-- or, without reloads, by the tasks' work, which stands on the board
+pub plain-weight : (board : List ℕ) (i j : ℕ) → workOn board j ≡ weightOn board 0 i j
+unfolding reloadsOf
+plain-weight board i j = omega arith
+
+module _ {board : List ℕ} {n : ℕ} (lent : Lent board n) (i : ℕ) (here : i < n) where
+  abbrev pub works : List ℕ
+  works = take 32 (drop 64 board)
+
+  pub works-are : (j : ℕ) → j < i → getD works j 0 ≡ weightOn board 0 i j
+  works-are j l =
+      let few = lent-few lent in
+      getD-take 32 (drop 64 board) j 0 (omega arith) ∙ getD-drop 64 board j 0 ∙ plain-weight board i j
+
+  pub works-handed : Handed (ownOn board i) board works i (limitOn board i)
+  works-handed =
+      let few = lent-few lent in
+      let long = lent-long lent in
+      lent-handed lent 0 i here works works-are (simp (length-take, length-drop) (omega arith))
+
+  pub answer-by-works : (m : ℕ) → m ≡ 0 → leastOf (demandOf (ownOn board i) (termIn board works) i) (limitOn board i) ≡ answerOn board m i
+  answer-by-works m e = answer-by-weights lent 0 i here works works-are ∙ ap (λ (k : ℕ). answerOn board k i) (sym e)

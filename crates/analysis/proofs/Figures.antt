@@ -9,7 +9,8 @@ use Rattle.demand.specs.Demand.{demandOf}
 use Rattle.demand.specs.Least.{firstOf, leastOf}
 use Rattle.table.specs.Tasks.{at}
 use Rattle.costs.specs.Costs.{reloadsOf, termAt}
-use Rattle.analysis.specs.Analysis.{ownOf, answerOf, responseOf}
+use Rattle.tasks.specs.Tasks.{ownOf}
+use Rattle.analysis.specs.Analysis.{answerOf, responseOf}
 use Rattle.analysis.specs.Figures.{Figure, figures, P}
 
 abbrev found : Figure → Response
@@ -18,7 +19,7 @@ found f = responseOf (f .table) (f .method) (f .position)
 -- and of table P, 7 also equals its demand, and the demand at 6 is 7
 pub figures-hold :
     (map found figures ≡ map (λ (f : Figure). f .answer) figures)
-    × (demandOf (ownOf (P 0 8 0 0) 1) (termAt (P 0 8 0 0) 0 1) 1 7 ≡ 7)
-    × (demandOf (ownOf (P 0 8 0 0) 1) (termAt (P 0 8 0 0) 0 1) 1 6 ≡ 7)
+    × (demandOf (ownOf (at (P 0 8 0 0) 1)) (termAt (P 0 8 0 0) 0 1) 1 7 ≡ 7)
+    × (demandOf (ownOf (at (P 0 8 0 0) 1)) (termAt (P 0 8 0 0) 0 1) 1 6 ≡ 7)
 unfolding responseOf answerOf leastOf firstOf demandOf reloadsOf at run fold ∅ _∪_ _∩_ count size number members
 figures-hold = (refl, refl, refl)

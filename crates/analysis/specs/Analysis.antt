@@ -1,5 +1,5 @@
 -- The response of the task at a position under a method.
-use Prim.Native.Nat.{ℕ, _+_, _-_, _≤_, _<_}
+use Prim.Native.Nat.{ℕ, _≤_, _<_}
 use mathlib.Core.Bool.{cond}
 use mathlib.Core.List.{List, [], _∷_, map}
 use lib.Dec.{eqb}
@@ -11,21 +11,20 @@ use Rattle.demand.specs.declared.Cell.{Cell}
 use Rattle.demand.specs.declared.Row.{Row}
 use Rattle.demand.specs.Demand.{demandOf}
 use Rattle.demand.specs.Least.{leastOf, sooner}
+use Rattle.tasks.specs.Tasks.{ownOf, limitOf}
 use Rattle.table.specs.declared.Table.{Table}
 use Rattle.table.specs.Tasks.{at}
 use Rattle.table.specs.Accepted.{AcceptedTable}
-use Rattle.costs.specs.Costs.{termAt}
-
--- C + B and D - J of the task at i
-abbrev pub ownOf : Table → ℕ → ℕ
-ownOf table i = at table i .work .0 + at table i .blocking .0
-
-abbrev pub limitOf : Table → ℕ → ℕ
-limitOf table i = at table i .deadline .0 - at table i .jitter .0
+use Rattle.board.specs.Board.{ownOn, limitOn}
+use Rattle.costs.specs.Costs.{termAt, termOn}
 
 -- methods 0 to 4: the smallest R up to D - J that equals its demand
 unfoldable pub answerOf : Table → ℕ → ℕ → Response
-answerOf table m i = leastOf (demandOf (ownOf table i) (termAt table m i) i) (limitOf table i)
+answerOf table m i = leastOf (demandOf (ownOf (at table i)) (termAt table m i) i) (limitOf (at table i))
+
+-- the same of the task at i of a board
+unfoldable pub answerOn : List ℕ → ℕ → ℕ → Response
+answerOn board m i = leastOf (demandOf (ownOn board i) (termOn board m i) i) (limitOn board i)
 
 -- method 5 is the sooner of the answers of 3 and 4
 abbrev pub withCombined : (ℕ → Response) → ℕ → Response

@@ -1,107 +1,54 @@
-// The response of a task under a method. specs/Analysis.antt says what a response is. The numbers and the sets of a table are gathered into
-// lists once, and lent: a table is long to copy.
+// The response of a task under a method. specs/Analysis.antt says what a response is. A table's numbers and sets are put on a board once, and
+// that is lent: a table is long to copy.
+use board::LIMITS;
+use board::OWNS;
+use board::WORKS;
 use demand::Response;
 use table::Table;
 use units::Ticks;
 ghost use mathlib.Core.Path.{_≡_};
-ghost use Prim.Native.Nat.{_≤_};
-ghost use lib.ListN.{length};
-ghost use Rattle.table.specs.Accepted.{AcceptedTable};
-ghost use Rattle.analysis.specs.Analysis.{withCombined, responseOf, Asked};
-ghost use Rattle.analysis.specs.Lists.{Numbers, Sets, singleIn, TaskHanded};
+ghost use Prim.Native.Nat.{_+_, _≤_};
+ghost use Rattle.demand.specs.Demand.{demandOf};
+ghost use Rattle.demand.specs.Terms.{termIn, Handed};
+ghost use Rattle.demand.specs.Least.{leastOf};
+ghost use Rattle.board.specs.Board.{ownOn, limitOn, Lent};
+ghost use Rattle.analysis.specs.Analysis.{answerOn, withCombined, responseOf, Asked};
 
-// T, J, C, C + B, D - J, UCB and ECB of the first `n` tasks.
-pub fn lists(
-    table: Table,
-    n: usize,
-    periods: &mut [u64; 32],
-    jitters: &mut [u64; 32],
-    works: &mut [u64; 32],
-    owns: &mut [u64; 32],
-    limits: &mut [u64; 32],
-    ucb: &mut [u64; 128],
-    ecb: &mut [u64; 128],
-)
-    requires { ⌜ (n ≤ table .count) × AcceptedTable table × (length (now periods) ≡ 32) × (length (now jitters) ≡ 32) × (length (now works) ≡ 32) × (length (now owns) ≡ 32) × (length (now limits) ≡ 32) × (length (now ucb) ≡ 128) × (length (now ecb) ≡ 128) ⌝ }
-    ensures { λ _. ⌜ Numbers table n (now (periods .exit)) (now (jitters .exit)) (now (works .exit)) (now (owns .exit)) (now (limits .exit)) ⌝ }
-    ensures { λ _. ⌜ Sets table n (now (ucb .exit)) (now (ecb .exit)) ⌝ }
+// The answer for the task at i of a board by a list of the weights of those above it.
+fn by_weights(board: &[u64], weights: &[u64], i: usize) -> Response
+    requires { ⌜ Lent (now board) (i + 1) × Handed (ownOn (now board) i) (now board) (now weights) i (limitOn (now board) i) ⌝ }
+    ensures { λ r. ⌜ r ≡ leastOf (demandOf (ownOn (now (board .entry)) i) (termIn (now (board .entry)) (now (weights .entry))) i) (limitOn (now (board .entry)) i) ⌝ }
 {
-    for k in 0..n {
-        let task = table.tasks[k];
-        periods[k] = task.period.0;
-        jitters[k] = task.jitter.0;
-        works[k] = task.work.0;
-        owns[k] = task.work.0 + task.blocking.0;
-        limits[k] = task.deadline.0 - task.jitter.0;
-        task.ucb.store(ucb, k);
-        task.ecb.store(ecb, k);
-    }
-}
-
-// The answer for the task at i under one of the methods 0 to 4.
-fn single(
-    own: Ticks,
-    limit: Ticks,
-    i: usize,
-    periods: &[u64],
-    jitters: &[u64],
-    works: &[u64],
-    ucb: &[u64],
-    ecb: &[u64],
-    brt: Ticks,
-    method: u64,
-) -> Response
-    requires { ⌜ (method ≤ 4) × TaskHanded (own .0) (limit .0) i (now periods) (now jitters) (now works) (now ucb) (now ecb) (brt .0) ⌝ }
-    ensures { λ r. ⌜ r ≡ singleIn (own .0) (limit .0) i (now (periods .entry)) (now (jitters .entry)) (now (works .entry)) (now (ucb .entry)) (now (ecb .entry)) (brt .0) method ⌝ }
-{
-    let weights = costs::weights(works, ucb, ecb, brt, method, i);
+    let own = Ticks(board[OWNS + i]);
+    let limit = Ticks(board[LIMITS + i]);
     let mut counts = [1u64; 32];
-    let mut ends = response::first_ends(periods, jitters, i);
-    let ticks = response::least(
-        own,
-        periods,
-        jitters,
-        &weights,
-        i,
-        limit,
-        &mut counts,
-        &mut ends,
-    );
+    let mut ends = response::first_ends(board, i);
+    let ticks = response::least(own, board, weights, i, limit, &mut counts, &mut ends);
     demand::told(ticks)
 }
 
+// The answer under one of the methods 0 to 4. Without reloads the weights are the tasks' work, which stands on the board.
+fn single(board: &[u64], method: u64, i: usize) -> Response
+    requires { ⌜ (method ≤ 4) × Lent (now board) (i + 1) ⌝ }
+    ensures { λ r. ⌜ r ≡ answerOn (now (board .entry)) method i ⌝ }
+{
+    if method == 0 {
+        return by_weights(board, &board[WORKS..OWNS], i);
+    }
+    let weights = costs::weights(board, method, i);
+    by_weights(board, &weights, i)
+}
+
 // The same under one of the methods 0 to 5. Method 5 is the sooner of the answers of 3 and 4.
-fn answer(
-    own: Ticks,
-    limit: Ticks,
-    i: usize,
-    periods: &[u64],
-    jitters: &[u64],
-    works: &[u64],
-    ucb: &[u64],
-    ecb: &[u64],
-    brt: Ticks,
-    method: u64,
-) -> Response
-    requires { ⌜ (method ≤ 5) × TaskHanded (own .0) (limit .0) i (now periods) (now jitters) (now works) (now ucb) (now ecb) (brt .0) ⌝ }
-    ensures { λ r. ⌜ r ≡ withCombined (singleIn (own .0) (limit .0) i (now (periods .entry)) (now (jitters .entry)) (now (works .entry)) (now (ucb .entry)) (now (ecb .entry)) (brt .0)) method ⌝ }
+fn answer(board: &[u64], method: u64, i: usize) -> Response
+    requires { ⌜ (method ≤ 5) × Lent (now board) (i + 1) ⌝ }
+    ensures { λ r. ⌜ r ≡ withCombined (λ m. answerOn (now (board .entry)) m i) method ⌝ }
 {
     if method < 5 {
-        return single(
-            own,
-            limit,
-            i,
-            periods,
-            jitters,
-            works,
-            ucb,
-            ecb,
-            brt,
-            method,
-        );
+        return single(board, method, i);
     }
-    let third = single(own, limit, i, periods, jitters, works, ucb, ecb, brt, 3);
-    let fourth = single(own, limit, i, periods, jitters, works, ucb, ecb, brt, 4);
+    let third = single(board, 3, i);
+    let fourth = single(board, 4, i);
     demand::combined(third, fourth)
 }
 
@@ -110,52 +57,7 @@ pub fn respond(table: Table, method: u64, i: usize) -> Response
     requires { ⌜ Asked 5 table method i ⌝ }
     ensures { λ r. ⌜ r ≡ responseOf table method i ⌝ }
 {
-    let mut periods = [0u64; 32];
-    let mut jitters = [0u64; 32];
-    let mut works = [0u64; 32];
-    let mut owns = [0u64; 32];
-    let mut limits = [0u64; 32];
-    let mut ucb = [0u64; 128];
-    let mut ecb = [0u64; 128];
-    lists(
-        table,
-        i + 1,
-        &mut periods,
-        &mut jitters,
-        &mut works,
-        &mut owns,
-        &mut limits,
-        &mut ucb,
-        &mut ecb,
-    );
-    let own = Ticks(owns[i]);
-    let limit = Ticks(limits[i]);
-    if method == 0 {
-        let mut counts = [1u64; 32];
-        let mut ends = response::first_ends(&periods, &jitters, i);
-        let ticks = response::least(
-            own,
-            &periods,
-            &jitters,
-            &works,
-            i,
-            limit,
-            &mut counts,
-            &mut ends,
-        );
-        return demand::told(ticks);
-    }
-    let brt = table.brt;
-    answer(
-        own,
-        limit,
-        i,
-        &periods,
-        &jitters,
-        &works,
-        &ucb,
-        &ecb,
-        brt,
-        method,
-    )
+    let mut board = [0u64; 417];
+    board::fill(table, i + 1, &mut board);
+    answer(&board, method, i)
 }

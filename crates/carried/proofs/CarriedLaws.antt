@@ -1,176 +1,194 @@
--- Facts about what is carried down the positions. Assumes nothing.
-use Prim.Native.Nat.{ℕ, _+_, _-_, _*_, _≤_, _<_, max}
-use native.Mathlib.Nat.{eq-zero-or-pos}
+-- Facts about what is carried down the rows on the ledger. Assumes nothing.
+use Prim.Native.Nat.{ℕ, _+_, _*_, _≤_, _<_, max}
 use native.Mathlib.Omega.{arith}
 use mathlib.Core.Path.{_≡_, refl, sym, ap, _∙_}
-use mathlib.Core.Logic.{_⊎_, inl, inr}
-use mathlib.Core.List.{List, []}
+use mathlib.Core.List.{List}
 use borrow.Author.Count.{below-more}
-use lib.ListN.{length, getD, set, replicate, length-set, length-replicate, getD-replicate}
+use lib.ListN.{length, getD, set, length-set}
 use lib.Seq.{getD-set-same, getD-set-other}
 use Rattle.sets.specs.declared.CacheSet.{CacheSet}
 use Rattle.sets.specs.Sets.{Set, ∅, _∪_, _∩_, size}
 use Rattle.sets.specs.Words.{members}
-use Rattle.sets.specs.Stored.{heldAt, storedAt, setAt}
+use Rattle.sets.specs.Stored.{heldAt, storedAt}
+use Rattle.sets.proofs.SetLaws.{size-le}
 use Rattle.sets.proofs.WordLaws.{members-empty}
-use Rattle.sets.proofs.StoredLaws.{stored-long, stored-same, stored-other}
+use Rattle.sets.proofs.StoredLaws.{stored-long, stored-same, stored-other, stored-beside, held-beside}
 use Rattle.tasks.specs.Tasks.{noSets}
-use Rattle.demand.specs.Positions.{between, run, hp, fold}
-use Rattle.demand.proofs.PositionLaws.{next}
+use Rattle.demand.specs.Positions.{hp}
+use Rattle.demand.proofs.PositionLaws.{none, next}
+use Rattle.board.specs.Board.{workOn, brtOn, ucbOn, ecbOn}
 use Rattle.carried.specs.declared.Gathered.{Gathered}
 use Rattle.costs.specs.Gather.{aff, unionOf, largestOf}
-use Rattle.costs.specs.Costs.{counts, reloadsOf}
-use Rattle.costs.specs.Lent.{weightIn}
-use Rattle.carried.specs.Carried.{Next, countsOf, Carried, columnOf, ColumnAt, Down, Columns, Evictions, Put, InPair}
+use Rattle.costs.specs.Costs.{reloadCounts, reloadsOf, weightOn}
+use Rattle.costs.proofs.CostLaws.{largest-most}
+use Rattle.carried.specs.Carried.{Next, Carried, Small, countsOf, aboveOn, allAt, evictingOn, mostAt, sharedAt, gatheredOn, gatheredPut}
+use Rattle.carried.specs.Carried.{Column, Ledger, Passing, Put, InPair}
 use Rattle.carried.proofs.PutLaws.{put-as}
 
--- ---- one column
-
--- no position from j + 1 on is above a row that is not below j
-no-rows : (j i : ℕ) → i ≤ j + 1 → between (j + 1) i ≡ []
-unfolding run
-no-rows j i h = let e : i - (j + 1) ≡ 0 = omega arith in ap (run (j + 1)) e
+-- ---- what is gathered for one task
 
 module _ (U : ℕ → Set) (above : Set) (j : ℕ) where
-  carried-none : Carried U above j 0 (record { most = record { 0 = 0 }; all = noSets; shared = record { 0 = 0 } })
-  unfolding fold
-  carried-none =
-      let e = no-rows j 0 (omega arith) in
-      record {
-        most = sym (ap (largestOf (λ k. size (U k))) e);
-        all = members-empty ∙ sym (ap (unionOf U) e);
-        shared = sym (ap (largestOf (λ k. size (U k ∩ above))) e);
-        small = record { most = omega arith; shared = omega arith };
-      }
+  -- nothing, before the row below it
+  carried-none : Carried U above j (j + 1) (record { most = record { 0 = 0 }; all = noSets; shared = record { 0 = 0 } })
+  carried-none = record {
+    most = sym (none max 0 (λ k. size (U k)) (j + 1));
+    all = members-empty ∙ sym (none _∪_ ∅ U (j + 1));
+    shared = sym (none max 0 (λ k. size (U k ∩ above)) (j + 1));
+  }
 
-  -- a row that is not below j adds nothing
-  carried-still : (i : ℕ) (g : Gathered) → i ≤ j → Carried U above j i g → Carried U above j (i + 1) g
-  carried-still i g h c =
-      let e = no-rows j i (omega arith) ∙ sym (no-rows j (i + 1) (omega arith)) in
-      record {
-        most = c .most ∙ ap (largestOf (λ k. size (U k))) e;
-        all = c .all ∙ ap (unionOf U) e;
-        shared = c .shared ∙ ap (largestOf (λ k. size (U k ∩ above))) e;
-        small = c .small;
-      }
-
-  carried-next : (i : ℕ) (g r : Gathered) (ucb : Set) → j < i → ucb ≡ U i → Carried U above j i g → Next g ucb above r → Carried U above j (i + 1) r
+  -- one row further
+  pub carried-next : (i : ℕ) (g r : Gathered) (ucb : Set) → j < i → ucb ≡ U i → Carried U above j i g → Next g ucb above r → Carried U above j (i + 1) r
   carried-next i g r ucb h e c n = record {
     most = n .most ∙ next max 0 (λ k. size (U k)) (j + 1) i _ _ (omega arith) (c .most) (ap size e);
     all = n .all ∙ next _∪_ ∅ U (j + 1) i _ _ (omega arith) (c .all) e;
     shared = n .shared ∙ next max 0 (λ k. size (U k ∩ above)) (j + 1) i _ _ (omega arith) (c .shared) (ap (λ (A : Set). size (A ∩ above)) e);
-    small = n .small;
+  }
+
+  pub carried-small : (i : ℕ) (g : Gathered) → Carried U above j i g → Small g
+  carried-small i g c = record {
+    most = rw (c .most) (largest-most _ _ (λ k. omega (arith, size-le (U k))));
+    shared = rw (c .shared) (largest-most _ _ (λ k. omega (arith, size-le (U k ∩ above))));
   }
 
   -- the counts of a row
   counted : (E : ℕ → Set) (ecb : Set) (i : ℕ) (g : Gathered) → Carried U above j (i + 1) g → ecb ≡ E j → above ≡ unionOf E (hp (j + 1))
-      → countsOf ecb g ≡ counts U E i j
+      → countsOf ecb g ≡ reloadCounts U E i j
   counted E ecb i g c e f =
       let m = c .most in
       let a = c .all in
       let s = c .shared ∙ ap (λ (A : Set). largestOf (λ k. size (U k ∩ A)) (aff i j)) f in
       cc
 
--- ---- the lists
+-- ---- what is gathered for j put in
 
-column-same : (most all shared : List ℕ) (j : ℕ) (r : Gathered) → j < length most → 4 * j + 4 ≤ length all → j < length shared
-    → columnOf (set most j (r .most .0)) (storedAt all j (r .all)) (set shared j (r .shared .0)) j ≡ r
-column-same most all shared j r a b c = rw (getD-set-same most j (r .most .0) 0 a, stored-same all j (r .all) b, getD-set-same shared j (r .shared .0) 0 c)
+module _ (l : List ℕ) (j : ℕ) (g : Gathered) (few : j < 32) (long : length l ≡ 352) where
+  abbrev counted-in : List ℕ
+  counted-in = set l (mostAt j) (g .most .0)
 
-column-other : (most all shared : List ℕ) (j k : ℕ) (r : Gathered) → (k ≡ j → ⊥)
-    → columnOf (set most j (r .most .0)) (storedAt all j (r .all)) (set shared j (r .shared .0)) k ≡ columnOf most all shared k
-column-other most all shared j k r n =
-    rw (getD-set-other most j k (r .most .0) 0 n, stored-other all j (r .all) k n, getD-set-other shared j k (r .shared .0) 0 n)
+  abbrev both-in : List ℕ
+  both-in = storedAt counted-in (allAt j) (g .all)
 
--- before the first row
-pub columns-none : (ucb ecb : List ℕ) → Columns ucb ecb 0 (replicate 32 0) (replicate 128 0) (replicate 32 0)
-unfolding heldAt
-columns-none ucb ecb = record {
-  most-long = length-replicate {A = ℕ} 32 0;
-  all-long = length-replicate {A = ℕ} 128 0;
-  shared-long = length-replicate {A = ℕ} 32 0;
-  past = λ k h. absurd (omega arith);
-  ahead = λ k h l.
+  both-long : length both-in ≡ 352
+  both-long = stored-long counted-in (allAt j) (g .all) ∙ simp length-set long
+
+  pub put-long : length (gatheredPut l j g) ≡ 352
+  put-long = simp length-set both-long
+
+  -- it is there
+  put-same : gatheredOn (gatheredPut l j g) j ≡ g
+  put-same =
       rw (
-        getD-replicate {A = ℕ} 32 k 0 0 l,
-        getD-replicate {A = ℕ} 128 (4 * k) 0 0 (omega arith),
-        getD-replicate {A = ℕ} 128 (4 * k + 1) 0 0 (omega arith),
-        getD-replicate {A = ℕ} 128 (4 * k + 2) 0 0 (omega arith),
-        getD-replicate {A = ℕ} 128 (4 * k + 3) 0 0 (omega arith),
+        getD-set-other both-in (sharedAt j) (mostAt j) (g .shared .0) 0 (λ z. omega arith),
+        stored-beside counted-in (allAt j) (g .all) (mostAt j) (λ r h z. omega arith),
+        getD-set-same l (mostAt j) (g .most .0) 0 (omega arith),
+        held-beside both-in (sharedAt j) (g .shared .0) (allAt j) (λ r h z. omega arith),
+        stored-same counted-in (allAt j) (g .all) (simp length-set (omega arith)),
+        getD-set-same both-in (sharedAt j) (g .shared .0) 0 (omega (arith, both-long)),
       )
-      (carried-none (setAt ucb) (unionOf (setAt ecb) (hp (k + 1))) k);
-}
 
--- what is gathered for j, one row further
-pub column-next : (ucb ecb most all shared : List ℕ) (i j : ℕ) (g r : Gathered) (marks above : Set) → j < i → ColumnAt ucb ecb j i most all shared
-    → g ≡ columnOf most all shared j → marks ≡ setAt ucb i → above ≡ unionOf (setAt ecb) (hp (j + 1)) → Next g marks above r
-    → Carried (setAt ucb) (unionOf (setAt ecb) (hp (j + 1))) j (i + 1) r
-column-next ucb ecb most all shared i j g r marks above h c e f q n = carried-next (setAt ucb) _ j i g r marks h f (rw e c) (rw q at n)
+  -- and what stands for another task, or the ECBs, is as it was
+  number-kept : (q : ℕ) → 256 ≤ q → (q ≡ mostAt j → ⊥) → (q ≡ sharedAt j → ⊥) → getD (gatheredPut l j g) q 0 ≡ getD l q 0
+  number-kept q h m s =
+      getD-set-other both-in (sharedAt j) q (g .shared .0) 0 s
+      ∙ stored-beside counted-in (allAt j) (g .all) q (λ r n z. omega arith)
+      ∙ getD-set-other l (mostAt j) q (g .most .0) 0 m
 
--- and put in
-pub down-next : (ucb ecb most all shared : List ℕ) (i j : ℕ) (r : Gathered) → j < 32 → Down ucb ecb i j most all shared
-    → Carried (setAt ucb) (unionOf (setAt ecb) (hp (j + 1))) j (i + 1) r
-    → Down ucb ecb i (j + 1) (set most j (r .most .0)) (storedAt all j (r .all)) (set shared j (r .shared .0))
-down-next ucb ecb most all shared i j r l d c = record {
-  most-long = simp length-set (d .most-long);
-  all-long = stored-long all j _ ∙ d .all-long;
-  shared-long = simp length-set (d .shared-long);
-  past = below-more (λ k. ColumnAt ucb ecb k (i + 1) (set most j (r .most .0)) (storedAt all j (r .all)) (set shared j (r .shared .0))) j
-      (λ k p. rw (column-other most all shared j k r (λ y. omega arith)) (d .past k p))
-      (rw (column-same most all shared j r (omega (arith, d .most-long)) (omega (arith, d .all-long)) (omega (arith, d .shared-long))) c);
-  ahead = λ k p s. rw (column-other most all shared j k r (λ z. omega arith)) (d .ahead k (omega arith) s);
-}
+  set-kept : (q : ℕ) → q < 64 → (q ≡ allAt j → ⊥) → heldAt (gatheredPut l j g) q ≡ heldAt l q
+  set-kept q h n =
+      held-beside both-in (sharedAt j) (g .shared .0) q (λ r m z. omega arith)
+      ∙ stored-other counted-in (allAt j) (g .all) q n
+      ∙ held-beside l (mostAt j) (g .most .0) q (λ r m z. omega arith)
 
--- all columns above row i are past it, and those below have nothing of it
-pub columns-next : (ucb ecb most all shared : List ℕ) (i : ℕ) → Down ucb ecb i i most all shared → Columns ucb ecb (i + 1) most all shared
-columns-next ucb ecb most all shared i d = record {
-  most-long = d .most-long;
-  all-long = d .all-long;
-  shared-long = d .shared-long;
-  past = λ k h. absurd (omega arith);
-  ahead = λ k h l. go k l (eq-zero-or-pos (i - k));
-}
-  where
-    go : (k : ℕ) → k < 32 → (i - k ≡ 0) ⊎ (0 < i - k) → ColumnAt ucb ecb k (i + 1) most all shared
-    go k l (inl p) = carried-still (setAt ucb) (unionOf (setAt ecb) (hp (k + 1))) k i _ (omega arith) (d .ahead k (omega arith) l)
-    go k l (inr p) = d .past k (omega arith)
+-- ---- columns
 
--- ---- the ECBs
+-- a column that a change leaves alone
+column-kept : {board l to : List ℕ} {k i : ℕ} → heldAt to k ≡ heldAt l k → evictingOn to k ≡ evictingOn l k
+    → getD to (mostAt k) 0 ≡ getD l (mostAt k) 0 → heldAt to (allAt k) ≡ heldAt l (allAt k) → getD to (sharedAt k) 0 ≡ getD l (sharedAt k) 0
+    → Column board l k i → Column board to k i
+column-kept a e m s h c = record { above = ap members a ∙ c .above; evicting = e ∙ c .evicting; gathered = rw (m, s, h) (c .gathered) }
 
-pub evictions-none : (ecb above evicting : List ℕ) → length above ≡ 128 → length evicting ≡ 32 → Evictions ecb 0 above evicting
-evictions-none ecb above evicting a e =
-    record { above-long = a; evicting-long = e; unions = λ k h. absurd (omega arith); sizes = λ k h. absurd (omega arith) }
+module _ (board l : List ℕ) (j : ℕ) (g : Gathered) (few : j < 32) (long : length l ≡ 352) where
+  -- another one
+  column-other : (k i : ℕ) → k < 32 → (k ≡ j → ⊥) → Column board l k i → Column board (gatheredPut l j g) k i
+  column-other k i h n =
+      column-kept (set-kept l j g few long k (omega arith) (λ z. omega arith))
+      (number-kept l j g few long (256 + k) (omega arith) (λ z. omega arith) (λ z. omega arith))
+      (number-kept l j g few long (mostAt k) (omega arith) (λ z. n (omega arith)) (λ z. omega arith))
+      (set-kept l j g few long (allAt k) (omega arith) (λ z. n (omega arith)))
+      (number-kept l j g few long (sharedAt k) (omega arith) (λ z. omega arith) (λ z. n (omega arith)))
 
-pub evictions-next : (ecb above evicting : List ℕ) (j : ℕ) (all : CacheSet) (n : ℕ) → j < 32 → Evictions ecb j above evicting
-    → members all ≡ unionOf (setAt ecb) (hp (j + 1)) → n ≡ size (setAt ecb j) → Evictions ecb (j + 1) (storedAt above j all) (set evicting j n)
-evictions-next ecb above evicting j all n h p a e = record {
-  above-long = stored-long above j all ∙ p .above-long;
-  evicting-long = simp length-set (p .evicting-long);
-  unions = below-more (λ k. setAt (storedAt above j all) k ≡ unionOf (setAt ecb) (hp (k + 1))) j
-      (λ k l. ap members (stored-other above j all k (λ y. omega arith)) ∙ p .unions k l)
-      (ap members (stored-same above j all (omega (arith, p .above-long))) ∙ a);
-  sizes = below-more (λ k. getD (set evicting j n) k 0 ≡ size (setAt ecb k)) j
-      (λ k l. getD-set-other evicting j k n 0 (λ y. omega arith) ∙ p .sizes k l)
-      (getD-set-same evicting j n 0 (omega (arith, p .evicting-long)) ∙ e);
-}
+  -- and its own
+  column-same : (i : ℕ) → aboveOn l j ≡ unionOf (ecbOn board) (hp (j + 1)) → evictingOn l j ≡ size (ecbOn board j)
+      → Carried (ucbOn board) (unionOf (ecbOn board) (hp (j + 1))) j i g → Column board (gatheredPut l j g) j i
+  column-same i a e c = record {
+    above = ap members (set-kept l j g few long j (omega arith) (λ z. omega arith)) ∙ a;
+    evicting = number-kept l j g few long (256 + j) (omega arith) (λ z. omega arith) (λ z. omega arith) ∙ e;
+    gathered = rw (put-same l j g few long) c;
+  }
 
--- those of fewer tasks
-pub evictions-fewer : (ecb above evicting : List ℕ) (n k : ℕ) → k ≤ n → Evictions ecb n above evicting → Evictions ecb k above evicting
-evictions-fewer ecb above evicting n k h p = record {
-  above-long = p .above-long;
-  evicting-long = p .evicting-long;
-  unions = λ j l. p .unions j (omega arith);
-  sizes = λ j l. p .sizes j (omega arith);
-}
+-- ---- inside a row
+
+pub passing-none : {board l : List ℕ} (i : ℕ) → Ledger board i l → Passing board i 0 l
+passing-none i p = record { long = p .long; past = λ k h. absurd (omega arith); ahead = λ k h n. p .columns k n }
+
+pub passing-next : (board l : List ℕ) (i j : ℕ) (g : Gathered) → j < i → i < 32 → Passing board i j l
+    → Carried (ucbOn board) (unionOf (ecbOn board) (hp (j + 1))) j (i + 1) g → Passing board i (j + 1) (gatheredPut l j g)
+passing-next board l i j g h few p c =
+    let few-j : j < 32 = omega arith in
+    let here = p .ahead j (omega arith) h in
+    record {
+      long = put-long l j g few-j (p .long);
+      past = below-more (λ k. Column board (gatheredPut l j g) k (i + 1)) j
+          (λ k n. column-other board l j g few-j (p .long) k (i + 1) (omega arith) (λ z. omega arith) (p .past k n))
+          (column-same board l j g few-j (p .long) (i + 1) (here .above) (here .evicting) c);
+      ahead = λ k n m. column-other board l j g few-j (p .long) k i (omega arith) (λ z. omega arith) (p .ahead k (omega arith) m);
+    }
+
+-- ---- below a row
+
+-- the task at i gets a column of its own: its union of ECBs, the size of its ECB, and nothing gathered
+module _ (board l : List ℕ) (i : ℕ) (all : CacheSet) (n : ℕ) (few : i < 32) (p : Passing board i i l) where
+  abbrev ecbs-in : List ℕ
+  ecbs-in = storedAt l i all
+
+  abbrev sized : List ℕ
+  sized = set ecbs-in (256 + i) n
+
+  pub sized-long : length sized ≡ 352
+  sized-long = simp length-set (stored-long l i all ∙ p .long)
+
+  number-still : (q : ℕ) → 256 ≤ q → (q ≡ 256 + i → ⊥) → getD sized q 0 ≡ getD l q 0
+  number-still q h m = getD-set-other ecbs-in (256 + i) q n 0 m ∙ stored-beside l i all q (λ r s z. omega arith)
+
+  set-still : (q : ℕ) → q < 64 → (q ≡ i → ⊥) → heldAt sized q ≡ heldAt l q
+  set-still q h m = held-beside ecbs-in (256 + i) n q (λ r s z. omega arith) ∙ stored-other l i all q m
+
+  column-still : (k : ℕ) → k < i → Column board sized k (i + 1)
+  column-still k h =
+      column-kept (set-still k (omega arith) (λ z. omega arith)) (number-still (256 + k) (omega arith) (λ z. omega arith))
+      (number-still (mostAt k) (omega arith) (λ z. omega arith)) (set-still (allAt k) (omega arith) (λ z. omega arith))
+      (number-still (sharedAt k) (omega arith) (λ z. omega arith)) (p .past k h)
+
+  pub ledger-next : members all ≡ unionOf (ecbOn board) (hp (i + 1)) → n ≡ size (ecbOn board i)
+      → Ledger board (i + 1) (gatheredPut sized i (record { most = record { 0 = 0 }; all = noSets; shared = record { 0 = 0 } }))
+  ledger-next a e = record {
+    long = put-long sized i _ few sized-long;
+    columns = below-more (λ k. Column board (gatheredPut sized i _) k (i + 1)) i
+        (λ k h. column-other board sized i _ few sized-long k (i + 1) (omega arith) (λ z. omega arith) (column-still k h))
+        (column-same board sized i _ few sized-long (i + 1)
+        (ap members (held-beside ecbs-in (256 + i) n i (λ r s z. omega arith) ∙ stored-same l i all (omega (arith, p .long))) ∙ a)
+        (getD-set-same ecbs-in (256 + i) n 0 (omega (arith, stored-long l i all, p .long)) ∙ e)
+        (carried-none (ucbOn board) _ i));
+  }
 
 -- ---- the weights
 
 -- those of one task
-pub pair-weighed : (works : List ℕ) (brt : ℕ) (ucb ecb : List ℕ) (i j : ℕ) (evicting : Set) (g : Gathered) {x y : List ℕ}
-    → Carried (setAt ucb) (unionOf (setAt ecb) (hp (j + 1))) j (i + 1) g → evicting ≡ setAt ecb j
-    → Put (InPair j 5) (λ m _. getD works j 0 + brt * getD (countsOf evicting g) m 0) x y
-    → Put (InPair j 5) (λ m b. weightIn works brt ucb ecb m i b) x y
+pub pair-weighed : (board : List ℕ) (i j : ℕ) (evicting : Set) (g : Gathered) {x y : List ℕ}
+    → Carried (ucbOn board) (unionOf (ecbOn board) (hp (j + 1))) j (i + 1) g → evicting ≡ ecbOn board j
+    → Put (InPair j 5) (λ m _. workOn board j + brtOn board * getD (countsOf evicting g) m 0) x y
+    → Put (InPair j 5) (λ m b. weightOn board m i b) x y
 unfolding reloadsOf
-pair-weighed works brt ucb ecb i j evicting g c e p =
-    put-as p (λ m b q. ap (λ (ns : List ℕ). getD works j 0 + brt * getD ns m 0) (counted (setAt ucb) _ j (setAt ecb) evicting i g c e refl)
-    ∙ ap (λ (b : ℕ). weightIn works brt ucb ecb m i b) (sym (q .1)))
+pair-weighed board i j evicting g c e p =
+    put-as p (λ m b q. ap (λ (ns : List ℕ). workOn board j + brtOn board * getD ns m 0) (counted (ucbOn board) _ j (ecbOn board) evicting i g c e refl)
+    ∙ ap (λ (b : ℕ). weightOn board m i b) (sym (q .1)))

@@ -1,66 +1,88 @@
--- What is carried down the positions for a report, and the weights of one row that it gives.
+-- What is carried down the rows of a report: the ledger, one list of 352 numbers. And the weights of one row that it gives.
 use Prim.Native.Nat.{ℕ, _+_, _*_, _≤_, _<_, max}
 use mathlib.Core.Path.{_≡_}
 use mathlib.Core.List.{List, [], _∷_}
-use lib.ListN.{length, getD}
+use lib.ListN.{length, getD, set}
 use Rattle.sets.specs.Sets.{Set, _∪_, _∩_, size}
 use Rattle.sets.specs.Words.{members}
-use Rattle.sets.specs.Stored.{heldAt, setAt}
+use Rattle.sets.specs.Stored.{heldAt, storedAt, setAt}
 use Rattle.demand.specs.Positions.{between, hp}
+use Rattle.board.specs.Board.{ucbOn, ecbOn}
 use Rattle.carried.specs.declared.Gathered.{Gathered}
 use Rattle.costs.specs.Gather.{unionOf, largestOf}
-use Rattle.costs.specs.Lent.{weightIn}
+use Rattle.costs.specs.Costs.{weightOn}
 
--- no count is above what a product by the block reload time may have
-pub record Small (g : Gathered) : Type 0 where
-  pub most : g .most .0 ≤ 2048
-  pub shared : g .shared .0 ≤ 2048
+-- ---- what is gathered for a task
 
 -- one UCB more
 pub record Next (g : Gathered) (ucb above : Set) (r : Gathered) : Type 0 where
   pub most : r .most .0 ≡ max (g .most .0) (size ucb)
   pub all : members (r .all) ≡ members (g .all) ∪ ucb
   pub shared : r .shared .0 ≡ max (g .shared .0) (size (ucb ∩ above))
-  pub small : Small r
-
--- the reload counts of the methods 0 to 4 for a task with this ECB
-abbrev pub countsOf : Set → Gathered → List ℕ
-countsOf ecb g = 0 ∷ size ecb ∷ g .most .0 ∷ size (members (g .all) ∩ ecb) ∷ g .shared .0 ∷ []
-
--- ---- what is carried
-
--- of the first n tasks: the union of the ECBs down to each, and the size of its own
-pub record Evictions (ecb : List ℕ) (n : ℕ) (above evicting : List ℕ) : Type 0 where
-  pub above-long : length above ≡ 128
-  pub evicting-long : length evicting ≡ 32
-  pub unions : (j : ℕ) → j < n → setAt above j ≡ unionOf (setAt ecb) (hp (j + 1))
-  pub sizes : (j : ℕ) → j < n → getD evicting j 0 ≡ size (setAt ecb j)
 
 -- before row i: what is gathered for j over the positions from j + 1 on and below i
 pub record Carried (U : ℕ → Set) (above : Set) (j i : ℕ) (g : Gathered) : Type 0 where
   pub most : g .most .0 ≡ largestOf (λ k. size (U k)) (between (j + 1) i)
   pub all : members (g .all) ≡ unionOf U (between (j + 1) i)
   pub shared : g .shared .0 ≡ largestOf (λ k. size (U k ∩ above)) (between (j + 1) i)
-  pub small : Small g
 
--- what stands for j in the lists
-abbrev pub columnOf : List ℕ → List ℕ → List ℕ → ℕ → Gathered
-columnOf most all shared j = record { most = record { 0 = getD most j 0 }; all = heldAt all j; shared = record { 0 = getD shared j 0 } }
+-- no count is above what a product by the block reload time may have
+pub record Small (g : Gathered) : Type 0 where
+  pub most : g .most .0 ≤ 2048
+  pub shared : g .shared .0 ≤ 2048
 
-abbrev pub ColumnAt : List ℕ → List ℕ → ℕ → ℕ → List ℕ → List ℕ → List ℕ → Type 0
-ColumnAt ucb ecb j i most all shared = Carried (setAt ucb) (unionOf (setAt ecb) (hp (j + 1))) j i (columnOf most all shared j)
+-- the reload counts of the methods 0 to 4 for a task with this ECB
+abbrev pub countsOf : Set → Gathered → List ℕ
+countsOf ecb g = 0 ∷ size ecb ∷ g .most .0 ∷ size (members (g .all) ∩ ecb) ∷ g .shared .0 ∷ []
 
--- the columns before j are carried past row i, the others down to it
-pub record Down (ucb ecb : List ℕ) (i j : ℕ) (most all shared : List ℕ) : Type 0 where
-  pub most-long : length most ≡ 32
-  pub all-long : length all ≡ 128
-  pub shared-long : length shared ≡ 32
-  pub past : (k : ℕ) → k < j → ColumnAt ucb ecb k (i + 1) most all shared
-  pub ahead : (k : ℕ) → j ≤ k → k < 32 → ColumnAt ucb ecb k i most all shared
+-- ---- where it stands
 
--- all columns are carried down to row i
-abbrev pub Columns : List ℕ → List ℕ → ℕ → List ℕ → List ℕ → List ℕ → Type 0
-Columns ucb ecb i most all shared = Down ucb ecb i 0 most all shared
+-- of the task at j the ledger has the union of the ECBs down to its own, four words, and then the union that is gathered for it, at number 32 + j
+-- of a list of sets,
+abbrev pub aboveOn : List ℕ → ℕ → Set
+aboveOn ledger j = setAt ledger j
+
+abbrev pub allAt : ℕ → ℕ
+allAt j = 32 + j
+
+-- then the size of its ECB,
+abbrev pub evictingOn : List ℕ → ℕ → ℕ
+evictingOn ledger j = getD ledger (256 + j) 0
+
+-- and the two counts that are gathered for it
+abbrev pub mostAt : ℕ → ℕ
+mostAt j = 288 + j
+
+abbrev pub sharedAt : ℕ → ℕ
+sharedAt j = 320 + j
+
+abbrev pub gatheredOn : List ℕ → ℕ → Gathered
+gatheredOn ledger j = record {
+  most = record { 0 = getD ledger (mostAt j) 0 };
+  all = heldAt ledger (allAt j);
+  shared = record { 0 = getD ledger (sharedAt j) 0 };
+}
+
+-- the ledger with what is gathered for j put in
+abbrev pub gatheredPut : List ℕ → ℕ → Gathered → List ℕ
+gatheredPut ledger j g = set (storedAt (set ledger (mostAt j) (g .most .0)) (allAt j) (g .all)) (sharedAt j) (g .shared .0)
+
+-- the column of the task at j before row i
+pub record Column (board ledger : List ℕ) (j i : ℕ) : Type 0 where
+  pub above : aboveOn ledger j ≡ unionOf (ecbOn board) (hp (j + 1))
+  pub evicting : evictingOn ledger j ≡ size (ecbOn board j)
+  pub gathered : Carried (ucbOn board) (unionOf (ecbOn board) (hp (j + 1))) j i (gatheredOn ledger j)
+
+-- the ledger before row i: a column for each task above it
+pub record Ledger (board : List ℕ) (i : ℕ) (ledger : List ℕ) : Type 0 where
+  pub long : length ledger ≡ 352
+  pub columns : (j : ℕ) → j < i → Column board ledger j i
+
+-- inside row i: the columns before j are carried past it, the others down to it
+pub record Passing (board : List ℕ) (i j : ℕ) (ledger : List ℕ) : Type 0 where
+  pub long : length ledger ≡ 352
+  pub past : (k : ℕ) → k < j → Column board ledger k (i + 1)
+  pub ahead : (k : ℕ) → j ≤ k → k < i → Column board ledger k i
 
 -- ---- the weights of a row
 
@@ -82,8 +104,12 @@ InPair j n m b = (m < n) × (b ≡ j)
 abbrev pub InRow : ℕ → ℕ → ℕ → Type 0
 InRow n m b = (m ≤ 4) × (b < n)
 
--- the weights of row i, and the columns carried past it
-pub record RowWeighed (works ucb ecb : List ℕ) (brt i : ℕ) (most all shared weights : List ℕ) : Type 0 where
-  pub columns : Columns ucb ecb (i + 1) most all shared
+-- a list that has the weights of row i
+pub record Weighed (board : List ℕ) (i : ℕ) (weights : List ℕ) : Type 0 where
   pub long : length weights ≡ 160
-  pub each : (m j : ℕ) → m ≤ 4 → j < i → getD weights (place m j) 0 ≡ weightIn works brt ucb ecb m i j
+  pub each : (m j : ℕ) → m ≤ 4 → j < i → getD weights (place m j) 0 ≡ weightOn board m i j
+
+-- the weights of row i, and the ledger carried past it
+pub record RowWeighed (board : List ℕ) (i : ℕ) (ledger weights : List ℕ) : Type 0 where
+  pub carried : Ledger board (i + 1) ledger
+  pub weighed : Weighed board i weights

@@ -1,5 +1,9 @@
-// What pre-emption costs, carried down the rows of a report, so that no row gathers again what the row above it has. specs/Carried.antt says what is
-// carried, and what the weights of a row are.
+// What pre-emption costs, carried down the rows of a report, so that no row gathers again what the row above it has. specs/Carried.antt says what
+// stands where on the ledger, and what the weights of a row are.
+use board::BRT;
+use board::ECBS;
+use board::UCBS;
+use board::WORKS;
 use sets::CacheSet;
 use units::Reloads;
 use units::Ticks;
@@ -8,8 +12,17 @@ ghost use Prim.Native.Nat.{_+_, _*_, _<_, _≤_};
 ghost use lib.ListN.{length, getD, set};
 ghost use Rattle.sets.specs.Sets.{size};
 ghost use Rattle.sets.specs.Words.{members};
-ghost use Rattle.costs.specs.Lent.{Lent};
-ghost use Rattle.carried.specs.Carried.{Small, Next, countsOf, place, Put, InPair, Evictions, Columns, RowWeighed};
+ghost use Rattle.board.specs.Board.{Lent};
+ghost use Rattle.carried.specs.Carried.{Next, Small, countsOf, gatheredOn, gatheredPut, Ledger, Passing, place, Put, InPair, RowWeighed};
+
+// Where the sets that are gathered start on the ledger, counted in sets of four words, and where the numbers do.
+const ALL: usize = 32;
+
+const EVICTING: usize = 256;
+
+const MOST: usize = 288;
+
+const SHARED: usize = 320;
 
 // What is gathered for the task at j over the positions below it, down to a row: the largest UCB, the union of the UCBs, and the most that one
 // UCB shares with the ECBs of j and all above it.
@@ -21,13 +34,35 @@ struct Gathered {
 
 // One row more, with its UCB and the size of that.
 fn gather(gathered: Gathered, ucb: CacheSet, useful: Reloads, above: CacheSet) -> Gathered
-    requires { ⌜ Small gathered × (useful .0 ≡ size (members ucb)) ⌝ }
+    requires { ⌜ useful .0 ≡ size (members ucb) ⌝ }
     ensures { λ r. ⌜ Next gathered (members ucb) (members above) r ⌝ }
 {
     let all = gathered.all.union(ucb);
     let most = costs::larger(gathered.most, useful);
     let shared = costs::larger(gathered.shared, ucb.shared_size(useful, above));
     Gathered { most, all, shared }
+}
+
+// What the ledger has gathered for the task at j.
+fn gathered_for(ledger: &[u64], j: usize) -> Gathered
+    requires { ⌜ (j < 32) × (length (now ledger) ≡ 352) ⌝ }
+    ensures { λ r. ⌜ r ≡ gatheredOn (now (ledger .entry)) j ⌝ }
+{
+    Gathered {
+        most: Reloads(ledger[MOST + j]),
+        all: CacheSet::at(ledger, ALL + j),
+        shared: Reloads(ledger[SHARED + j]),
+    }
+}
+
+// Puts in what is gathered for the task at j.
+fn keep(ledger: &mut [u64; 352], j: usize, gathered: Gathered)
+    requires { ⌜ (j < 32) × (length (now ledger) ≡ 352) ⌝ }
+    ensures { λ _. ⌜ now (ledger .exit) ≡ gatheredPut (now (ledger .entry)) j gathered ⌝ }
+{
+    ledger[MOST + j] = gathered.most.0;
+    gathered.all.store(ledger, ALL + j);
+    ledger[SHARED + j] = gathered.shared.0;
 }
 
 // Puts in the weight of j under a method: `work` ticks and `n` reloads.
@@ -60,55 +95,41 @@ fn put_pair(
     put(weights, 4, j, work, gathered.shared, brt);
 }
 
-// For each of the first `count` tasks the union of the ECBs down to its own, and the size of its own.
-pub fn evictions(ecb: &[u64], count: usize, above: &mut [u64; 128], evicting: &mut [u64; 32])
-    requires { ⌜ (count ≤ 32) × (4 * count ≤ length (now ecb)) × (length (now above) ≡ 128) × (length (now evicting) ≡ 32) ⌝ }
-    ensures { λ _. ⌜ Evictions (now (ecb .entry)) count (now (above .exit)) (now (evicting .exit)) ⌝ }
+// Adds the column of the task at i, below all that have one: the union of the ECBs down to its own, the size of that, and nothing gathered.
+fn add_column(board: &[u64], i: usize, ledger: &mut [u64; 352])
+    requires { ⌜ Lent (now board) (i + 1) × Passing (now board) i i (now ledger) ⌝ }
+    ensures { λ _. ⌜ Ledger (now (board .entry)) (i + 1) (now (ledger .exit)) ⌝ }
 {
-    for j in 0..count {
-        costs::union_over(ecb, 0, j + 1).store(above, j);
-        evicting[j] = CacheSet::at(ecb, j).size().0;
-    }
+    costs::union_over(board, ECBS, 0, i + 1).store(ledger, i);
+    ledger[EVICTING + i] = CacheSet::at(board, ECBS + i).size().0;
+    keep(
+        ledger,
+        i,
+        Gathered {
+            most: Reloads(0),
+            all: CacheSet::EMPTY,
+            shared: Reloads(0),
+        },
+    );
 }
 
-// The weights of the tasks above i under the methods 0 to 4. What is gathered for each of them is carried one row further.
-pub fn weigh_row(
-    works: &[u64],
-    ucb: &[u64],
-    ecb: &[u64],
-    above: &[u64],
-    evicting: &[u64],
-    brt: Ticks,
-    i: usize,
-    most: &mut [u64; 32],
-    all: &mut [u64; 128],
-    shared: &mut [u64; 32],
-    weights: &mut [u64; 160],
-)
-    requires { ⌜ Lent (now works) (now ucb) (now ecb) (brt .0) (i + 1) × Evictions (now ecb) i (now above) (now evicting) × Columns (now ucb) (now ecb) i (now most) (now all) (now shared) × (length (now weights) ≡ 160) ⌝ }
-    ensures { λ _. ⌜ RowWeighed (now (works .entry)) (now (ucb .entry)) (now (ecb .entry)) (brt .0) i (now (most .exit)) (now (all .exit)) (now (shared .exit)) (now (weights .exit)) ⌝ }
+// The weights of the tasks above i under the methods 0 to 4. What is gathered for each of them is carried one row further, and the task at i
+// gets a column of its own.
+pub fn weigh_row(board: &[u64], i: usize, ledger: &mut [u64; 352], weights: &mut [u64; 160])
+    requires { ⌜ Lent (now board) (i + 1) × Ledger (now board) i (now ledger) × (length (now weights) ≡ 160) ⌝ }
+    ensures { λ _. ⌜ RowWeighed (now (board .entry)) i (now (ledger .exit)) (now (weights .exit)) ⌝ }
 {
-    let marks = CacheSet::at(ucb, i);
+    let brt = Ticks(board[BRT]);
+    let marks = CacheSet::at(board, UCBS + i);
     let useful = marks.size();
     for j in 0..i {
-        let gathered = Gathered {
-            most: Reloads(most[j]),
-            all: CacheSet::at(all, j),
-            shared: Reloads(shared[j]),
-        };
-        let next = gather(gathered, marks, useful, CacheSet::at(above, j));
-        most[j] = next.most.0;
-        next.all.store(all, j);
-        shared[j] = next.shared.0;
-        let evictor = CacheSet::at(ecb, j);
-        put_pair(
-            weights,
-            j,
-            Ticks(works[j]),
-            evictor,
-            Reloads(evicting[j]),
-            next,
-            brt,
-        );
+        let above = CacheSet::at(ledger, j);
+        let next = gather(gathered_for(ledger, j), marks, useful, above);
+        keep(ledger, j, next);
+        let work = Ticks(board[WORKS + j]);
+        let evictor = CacheSet::at(board, ECBS + j);
+        let evicting = Reloads(ledger[EVICTING + j]);
+        put_pair(weights, j, work, evictor, evicting, next, brt);
     }
+    add_column(board, i, ledger);
 }

@@ -1,3 +1,4 @@
 -- What belongs to no one function.
 pub mod CostLaws
 pub mod OrderLaws
+pub mod BoardLaws

@@ -7,7 +7,7 @@ use Rattle.sets.specs.Sets.{Set, ∅, _∪_, _⊆_}
 use Rattle.sets.proofs.SetLaws.{union-left, union-right, union-least, size-mono, size-inter-left, size-inter-right, size-inter-mono}
 use Rattle.demand.specs.Positions.{hp}
 use Rattle.demand.specs.Demand.{NoMore}
-use Rattle.demand.specs.Flat.{InRange}
+use Rattle.demand.specs.Terms.{InRange}
 use Rattle.demand.proofs.PositionLaws.{Rising, place-lt, place-le, Grows, gathered}
 use Rattle.table.specs.declared.Table.{Table}
 use Rattle.table.specs.Tasks.{at}

@@ -1,5 +1,9 @@
-// What pre-emption costs: reload counts, and what one activation asks for with them. specs/Costs.antt says what they are, and
-// specs/Lent.antt how the tasks are lent: sets as words, so that nothing that runs in a loop copies an array.
+// What pre-emption costs: reload counts, and what one activation asks for with them. specs/Costs.antt says what they are. The tasks are lent
+// as a board, so that nothing that runs in a loop copies a table.
+use board::BRT;
+use board::ECBS;
+use board::UCBS;
+use board::WORKS;
 use sets::CacheSet;
 use units::Reloads;
 use units::Ticks;
@@ -11,7 +15,8 @@ ghost use Rattle.sets.specs.Words.{members};
 ghost use Rattle.sets.specs.Stored.{setAt};
 ghost use Rattle.demand.specs.Positions.{between, front};
 ghost use Rattle.costs.specs.Gather.{unionOf, largestOf};
-ghost use Rattle.costs.specs.Lent.{Lent, reloadsIn, weightIn};
+ghost use Rattle.board.specs.Board.{Lent};
+ghost use Rattle.costs.specs.Costs.{reloadsOn, weightOn};
 
 // The larger of two reload counts.
 pub fn larger(a: Reloads, b: Reloads) -> Reloads
@@ -20,55 +25,58 @@ pub fn larger(a: Reloads, b: Reloads) -> Reloads
     if a.0 <= b.0 { b } else { a }
 }
 
-// The union of the sets at the positions from `from` on and below `to`.
-pub fn union_over(words: &[u64], from: usize, to: usize) -> CacheSet
-    requires { ⌜ (from ≤ to) × (4 * to ≤ length (now words)) ⌝ }
-    ensures { λ r. ⌜ members r ≡ unionOf (setAt (now (words .entry))) (between from to) ⌝ }
+// The union of the sets at the positions from `from` on and below `to`. The set at position 0 is number `first` of the list.
+pub fn union_over(words: &[u64], first: usize, from: usize, to: usize) -> CacheSet
+    requires { ⌜ (from ≤ to) × (4 * (first + to) ≤ length (now words)) ⌝ }
+    ensures { λ r. ⌜ members r ≡ unionOf (λ k. setAt (now (words .entry)) (first + k)) (between from to) ⌝ }
 {
     let mut all = CacheSet::EMPTY;
     for k in from..to {
-        all = all.union(CacheSet::at(words, k));
+        all = all.union(CacheSet::at(words, first + k));
     }
     all
 }
 
 // The largest size of these sets.
-fn largest_over(words: &[u64], from: usize, to: usize) -> Reloads
-    requires { ⌜ (from ≤ to) × (4 * to ≤ length (now words)) ⌝ }
-    ensures { λ r. ⌜ r .0 ≡ largestOf (λ k. size (setAt (now (words .entry)) k)) (between from to) ⌝ }
+fn largest_over(words: &[u64], first: usize, from: usize, to: usize) -> Reloads
+    requires { ⌜ (from ≤ to) × (4 * (first + to) ≤ length (now words)) ⌝ }
+    ensures { λ r. ⌜ r .0 ≡ largestOf (λ k. size (setAt (now (words .entry)) (first + k))) (between from to) ⌝ }
 {
     let mut most = Reloads(0);
     for k in from..to {
-        most = larger(most, CacheSet::at(words, k).size());
+        most = larger(most, CacheSet::at(words, first + k).size());
     }
     most
 }
 
 // The largest size of what one of these sets shares with `other`.
-fn largest_shared(words: &[u64], from: usize, to: usize, other: CacheSet) -> Reloads
-    requires { ⌜ (from ≤ to) × (4 * to ≤ length (now words)) ⌝ }
-    ensures { λ r. ⌜ r .0 ≡ largestOf (λ k. size (setAt (now (words .entry)) k ∩ members other)) (between from to) ⌝ }
+fn largest_shared(words: &[u64], first: usize, from: usize, to: usize, other: CacheSet) -> Reloads
+    requires { ⌜ (from ≤ to) × (4 * (first + to) ≤ length (now words)) ⌝ }
+    ensures { λ r. ⌜ r .0 ≡ largestOf (λ k. size (setAt (now (words .entry)) (first + k) ∩ members other)) (between from to) ⌝ }
 {
     let mut most = Reloads(0);
     for k in from..to {
-        most = larger(most, CacheSet::at(words, k).intersection(other).size());
+        most = larger(
+            most,
+            CacheSet::at(words, first + k).intersection(other).size(),
+        );
     }
     most
 }
 
 // The reload count g(i, j) under one of the methods 0 to 4.
-pub fn reloads(ucb: &[u64], ecb: &[u64], method: u64, i: usize, j: usize) -> Reloads
-    requires { ⌜ (method ≤ 4) × (j < i) × (4 * (i + 1) ≤ length (now ucb)) × (4 * (i + 1) ≤ length (now ecb)) ⌝ }
-    ensures { λ r. ⌜ r .0 ≡ reloadsIn (now (ucb .entry)) (now (ecb .entry)) method i j ⌝ }
+pub fn reloads(board: &[u64], method: u64, i: usize, j: usize) -> Reloads
+    requires { ⌜ (method ≤ 4) × (j < i) × Lent (now board) (i + 1) ⌝ }
+    ensures { λ r. ⌜ r .0 ≡ reloadsOn (now (board .entry)) method i j ⌝ }
 {
     match method {
         0 => Reloads(0),
-        1 => CacheSet::at(ecb, j).size(),
-        2 => largest_over(ucb, j + 1, i + 1),
-        3 => union_over(ucb, j + 1, i + 1)
-            .intersection(CacheSet::at(ecb, j))
+        1 => CacheSet::at(board, ECBS + j).size(),
+        2 => largest_over(board, UCBS, j + 1, i + 1),
+        3 => union_over(board, UCBS, j + 1, i + 1)
+            .intersection(CacheSet::at(board, ECBS + j))
             .size(),
-        _ => largest_shared(ucb, j + 1, i + 1, union_over(ecb, 0, j + 1)),
+        _ => largest_shared(board, UCBS, j + 1, i + 1, union_over(board, ECBS, 0, j + 1)),
     }
 }
 
@@ -81,20 +89,15 @@ pub fn weight(work: Ticks, n: Reloads, brt: Ticks) -> Ticks
 }
 
 // What each task above i asks for at an activation, under one of the methods 0 to 4.
-pub fn weights(
-    works: &[u64],
-    ucb: &[u64],
-    ecb: &[u64],
-    brt: Ticks,
-    method: u64,
-    i: usize,
-) -> [u64; 32]
-    requires { ⌜ (method ≤ 4) × Lent (now works) (now ucb) (now ecb) (brt .0) (i + 1) ⌝ }
-    ensures { λ r. ⌜ r ≡ front 0 (weightIn (now (works .entry)) (brt .0) (now (ucb .entry)) (now (ecb .entry)) method i) i ⌝ }
+pub fn weights(board: &[u64], method: u64, i: usize) -> [u64; 32]
+    requires { ⌜ (method ≤ 4) × Lent (now board) (i + 1) ⌝ }
+    ensures { λ r. ⌜ r ≡ front 0 (weightOn (now (board .entry)) method i) i ⌝ }
 {
+    let brt = Ticks(board[BRT]);
     let mut all = [0u64; 32];
     for j in 0..i {
-        all[j] = weight(Ticks(works[j]), reloads(ucb, ecb, method, i, j), brt).0;
+        let work = Ticks(board[WORKS + j]);
+        all[j] = weight(work, reloads(board, method, i, j), brt).0;
     }
     all
 }

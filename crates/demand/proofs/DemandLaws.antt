@@ -9,7 +9,7 @@ use mathlib.Core.List.{List}
 use Rattle.demand.specs.declared.Response.the-variants.{Unschedulable}
 use Rattle.demand.specs.Positions.{hp, fold}
 use Rattle.demand.specs.Demand.{Term, ceil, activationsOf, workOf, demandOf, NoMore}
-use Rattle.demand.specs.Flat.{InRange, Handed}
+use Rattle.demand.specs.Terms.{InRange, Handed}
 use Rattle.demand.specs.Least.{leastOf, NoLater}
 use Rattle.demand.proofs.LeastLaws.{Monotone, leastOf-no-later}
 use Rattle.demand.proofs.SoonerLaws.{none-latest}
@@ -67,15 +67,14 @@ work-bound r t p h =
     (p .weight)
 
 -- the same terms may be handed in for other work of the task's own, and at another time
-pub handed-for : {own n r : ℕ} {ps js ws : List ℕ} → Handed own ps js ws n r → {c s : ℕ} → 1 ≤ c → c ≤ 500000000 → s ≤ 250000000 → Handed c ps js ws n s
+pub handed-for : {own n r : ℕ} {rs ws : List ℕ} → Handed own rs ws n r → {c s : ℕ} → 1 ≤ c → c ≤ 500000000 → s ≤ 250000000 → Handed c rs ws n s
 handed-for p least most time = record {
   few = p .few;
   own-least = least;
   own-most = most;
   time = time;
-  periods = p .periods;
-  jitters = p .jitters;
-  weights = p .weights;
+  released = p .released;
+  weighed = p .weighed;
   ranged = p .ranged;
 }
 

@@ -7,7 +7,7 @@ use mathlib.Core.Path.{_≡_, refl, sym, ap}
 use Rattle.demand.specs.declared.Response.the-variants.{Unschedulable}
 use Rattle.demand.specs.declared.Part.{Part}
 use Rattle.demand.specs.Demand.{Term, ceil, workOf, demandOf}
-use Rattle.demand.specs.Flat.{InRange}
+use Rattle.demand.specs.Terms.{InRange}
 use Rattle.demand.specs.Least.{Reached, leastOf}
 use Rattle.demand.specs.Hasten.{shareOf, sharesOf, PartOf, TurnOf}
 use Rattle.demand.proofs.PositionLaws.{none, next}

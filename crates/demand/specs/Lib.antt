@@ -1,5 +1,5 @@
 pub mod Positions
 pub mod Demand
-pub mod Flat
+pub mod Terms
 pub mod Least
 pub mod Hasten

@@ -1,10 +1,10 @@
-// The demand of a task, and the smallest time that equals it. specs/Demand.antt says what a demand is, specs/Flat.antt how its terms are
-// handed in, specs/Least.antt what the smallest solution is, and specs/Hasten.antt what a turn of the iteration for it knows.
+// The demand of a task, and the smallest time that equals it. specs/Demand.antt says what a demand is, specs/Terms.antt how its terms are
+// lent, specs/Least.antt what the smallest solution is, and specs/Hasten.antt what a turn of the iteration for it knows.
 use units::Ticks;
 ghost use mathlib.Core.Path.{_≡_};
 ghost use Prim.Native.Nat.{_-_, _≤_};
 ghost use Rattle.demand.specs.Demand.{termOf, workOf, demandOf};
-ghost use Rattle.demand.specs.Flat.{flat, InRange, Handed};
+ghost use Rattle.demand.specs.Terms.{termIn, InRange, Handed};
 ghost use Rattle.demand.specs.Least.{leastOf, toldOf, sooner, Reached};
 ghost use Rattle.demand.specs.Hasten.{shareOf, sharesOf, PartOf, TurnOf};
 
@@ -23,6 +23,9 @@ pub struct Cell {
 pub struct Row {
     pub cells: [Cell; 6],
 }
+
+// Where the jitters start in a list of releases: after 32 places for periods.
+pub const JITTERS: usize = 32;
 
 // What one task of higher priority asks for in `r` ticks.
 fn work(period: u64, jitter: u64, weight: u64, r: u64) -> u64
@@ -57,21 +60,15 @@ fn share(period: u64, jitter: u64, weight: u64) -> u64
     weight * WHOLE / period
 }
 
-// What is left of `a` without `b`: nothing where `b` is the larger.
-fn less(a: u64, b: u64) -> u64
-    ensures { λ r. ⌜ r ≡ a - b ⌝ }
-{
-    if a <= b { 0 } else { a - b }
-}
-
 // What the first `n` terms leave of the processor.
-fn left_by(periods: &[u64], jitters: &[u64], weights: &[u64], n: usize) -> u64
-    requires { ⌜ Handed 1 (now periods) (now jitters) (now weights) n 0 ⌝ }
-    ensures { λ q. ⌜ q ≡ 17179869184 - sharesOf (flat (now (periods .entry)) (now (jitters .entry)) (now (weights .entry))) n ⌝ }
+fn left_by(releases: &[u64], weights: &[u64], n: usize) -> u64
+    requires { ⌜ Handed 1 (now releases) (now weights) n 0 ⌝ }
+    ensures { λ q. ⌜ q ≡ 17179869184 - sharesOf (termIn (now (releases .entry)) (now (weights .entry))) n ⌝ }
 {
     let mut left = WHOLE;
     for i in 0..n {
-        left = less(left, share(periods[i], jitters[i], weights[i]));
+        let taken = share(releases[i], releases[JITTERS + i], weights[i]);
+        left = if left <= taken { 0 } else { left - taken };
     }
     left
 }
@@ -105,23 +102,29 @@ fn part_of(period: u64, jitter: u64, weight: u64, r: u64, reach: u64, left: u64)
 // One turn: the next time is the demand, or, if that is later, the time that what is left of the processor takes for what is counted.
 fn turn_at(
     own: u64,
-    periods: &[u64],
-    jitters: &[u64],
+    releases: &[u64],
     weights: &[u64],
     n: usize,
     limit: u64,
     r: u64,
     reach: u64,
 ) -> Turn
-    requires { ⌜ Handed own (now periods) (now jitters) (now weights) n limit × (r ≤ limit) × (reach ≤ 17200000000000000000) ⌝ }
-    ensures { λ t. ⌜ TurnOf (demandOf own (flat (now (periods .entry)) (now (jitters .entry)) (now (weights .entry))) n) r t ⌝ }
+    requires { ⌜ Handed own (now releases) (now weights) n limit × (r ≤ limit) × (reach ≤ 17200000000000000000) ⌝ }
+    ensures { λ t. ⌜ TurnOf (demandOf own (termIn (now (releases .entry)) (now (weights .entry))) n) r t ⌝ }
 {
     let mut demand = own;
     let mut counted = own;
     let mut extra: u64 = 0;
     let mut left = WHOLE;
     for i in 0..n {
-        let p = part_of(periods[i], jitters[i], weights[i], r, reach, left);
+        let p = part_of(
+            releases[i],
+            releases[JITTERS + i],
+            weights[i],
+            r,
+            reach,
+            left,
+        );
         demand += p.work;
         counted += p.counted;
         extra += p.extra;
@@ -142,23 +145,22 @@ fn turn_at(
 // The iteration where it is slow. No solution is below `start`.
 pub fn hasten(
     own: u64,
-    periods: &[u64],
-    jitters: &[u64],
+    releases: &[u64],
     weights: &[u64],
     n: usize,
     limit: u64,
     start: u64,
 ) -> Response
-    requires { ⌜ Handed own (now periods) (now jitters) (now weights) n limit × (start ≤ limit) × Reached (demandOf own (flat (now periods) (now jitters) (now weights)) n) start ⌝ }
-    ensures { λ a. ⌜ a ≡ leastOf (demandOf own (flat (now (periods .entry)) (now (jitters .entry)) (now (weights .entry))) n) limit ⌝ }
+    requires { ⌜ Handed own (now releases) (now weights) n limit × (start ≤ limit) × Reached (demandOf own (termIn (now releases) (now weights)) n) start ⌝ }
+    ensures { λ a. ⌜ a ≡ leastOf (demandOf own (termIn (now (releases .entry)) (now (weights .entry))) n) limit ⌝ }
 {
-    if left_by(periods, jitters, weights, n) == 0 {
+    if left_by(releases, weights, n) == 0 {
         return Response::Unschedulable;
     }
     let mut r = start;
     let mut reach = start;
     while r <= limit {
-        let t = turn_at(own, periods, jitters, weights, n, limit, r, reach);
+        let t = turn_at(own, releases, weights, n, limit, r, reach);
         if t.demand == r {
             return Response::Within(Ticks(r));
         }

@@ -4,7 +4,7 @@ use native.Mathlib.Nat.{div-mul-le-self, le-antisymm, lt-of-not-le, mul-le-mul, 
 use native.Mathlib.Decide.{decLe}
 use native.Mathlib.Omega.{arith}
 use mathlib.Core.Path.{_≡_, refl, sym, ap, ap₂, _∙_}
-use mathlib.Core.Bool.{Bool, true, false}
+use mathlib.Core.Bool.{Bool, true, false, cond}
 use mathlib.Core.List.{List}
 use lib.Dec.{ltb}
 use borrow.Author.Count.{below-more}
@@ -13,9 +13,9 @@ use lib.ListN.{getD, length, set, replicate, length-set, length-replicate, getD-
 use lib.Seq.{getD-set-same, getD-set-other}
 use Rattle.demand.specs.Positions.{front}
 use Rattle.demand.specs.Demand.{Term, ceil, activationsOf, demandOf, NoMore}
-use Rattle.demand.specs.Flat.{flat, InRange, Handed}
+use Rattle.demand.specs.Terms.{periodIn, jitterIn, termIn, InRange, Handed}
 use Rattle.demand.specs.Least.{Reached}
-use Rattle.response.specs.Counts.{oneIf, missingOf, askedOf, firstEnd, Counting, Periodic, Kept, Raised, Started}
+use Rattle.response.specs.Counts.{missingOf, askedOf, firstEnd, Counting, Periodic, Kept, Raised, Started}
 use Rattle.demand.proofs.PositionLaws.{none, next, fold-same}
 use Rattle.demand.proofs.FrontLaws.{front-at, front-long}
 use Rattle.demand.proofs.LeastLaws.{solution-under, reached-below}
@@ -40,10 +40,10 @@ module _ (period end r : ℕ) (live : 1 ≤ period) where
       (omega (arith, ceil-mul x period live)) (omega (arith, div-mul-le-self (x + (period - 1)) period))
 
   -- a first one, where r is past the end, may be all
-  pub missing-one : (one : ℕ) → one ≡ oneIf (ltb end r) → r ≤ end + one * period → one ≡ missingOf period end r
+  pub missing-one : (one : ℕ) → one ≡ cond (ltb end r) 1 0 → r ≤ end + one * period → one ≡ missingOf period end r
   missing-one one e l = go (ltb end r) refl e
     where
-      go : (b : Bool) → ltb end r ≡ b → one ≡ oneIf b → one ≡ missingOf period end r
+      go : (b : Bool) → ltb end r ≡ b → one ≡ cond b 1 0 → one ≡ missingOf period end r
       go true t e = ceil-is (r - end) one period live (omega arith) (omega (arith, ltb-true end r t, ap (λ (k : ℕ). k * period) e))
       go false t e = e ∙ missing-none (ltb-false end r t)
 
@@ -80,14 +80,14 @@ module _ (own : ℕ) (ws : List ℕ) where
   asked-same a b n p = fold-same _+_ own _ _ 0 (n - 0) (λ j _ l. ap (λ (c : ℕ). c * getD ws j 0) (p j (omega arith)))
 
   -- counts that are no more than the activations ask for no more than the demand, and the other way round
-  module _ (ps js counts : List ℕ) (s : ℕ) where
-    asked-under : (n : ℕ) → ((j : ℕ) → j < n → getD counts j 0 ≤ activationsOf s (flat ps js ws j))
-        → askedOf own ws counts n ≤ demandOf own (flat ps js ws) n s
+  module _ (rs counts : List ℕ) (s : ℕ) where
+    asked-under : (n : ℕ) → ((j : ℕ) → j < n → getD counts j 0 ≤ activationsOf s (termIn rs ws j))
+        → askedOf own ws counts n ≤ demandOf own (termIn rs ws) n s
     unfolding askedOf demandOf
     asked-under n p = sum-le own _ _ n (λ j l. mul-le-mul-right (getD ws j 0) (p j l))
 
-    asked-over : (n : ℕ) → ((j : ℕ) → j < n → activationsOf s (flat ps js ws j) ≤ getD counts j 0)
-        → demandOf own (flat ps js ws) n s ≤ askedOf own ws counts n
+    asked-over : (n : ℕ) → ((j : ℕ) → j < n → activationsOf s (termIn rs ws j) ≤ getD counts j 0)
+        → demandOf own (termIn rs ws) n s ≤ askedOf own ws counts n
     unfolding askedOf demandOf
     asked-over n p = sum-le own _ _ n (λ j l. mul-le-mul-right (getD ws j 0) (p j l))
 
@@ -100,30 +100,30 @@ module _ (own : ℕ) (ws : List ℕ) where
       (getD-set-same counts i count 0 l)
 
 -- the counts that are raised so far, and those that are not
-pub record Passed (ps : List ℕ) (r : ℕ) (counts ends : List ℕ) (i : ℕ) (to to-ends : List ℕ) : Type 0 where
-  pub raised : Raised ps r counts ends i to to-ends
+pub record Passed (rs : List ℕ) (r : ℕ) (counts ends : List ℕ) (i : ℕ) (to to-ends : List ℕ) : Type 0 where
+  pub raised : Raised rs r counts ends i to to-ends
   pub rest : (j : ℕ) → i ≤ j → getD to j 0 ≡ getD counts j 0
   pub rest-ends : (j : ℕ) → i ≤ j → getD to-ends j 0 ≡ getD ends j 0
 
-module _ (ps : List ℕ) (r : ℕ) (counts ends : List ℕ) where
-  pub passed-none : length counts ≡ 32 → length ends ≡ 32 → Passed ps r counts ends 0 counts ends
+module _ (rs : List ℕ) (r : ℕ) (counts ends : List ℕ) where
+  pub passed-none : length counts ≡ 32 → length ends ≡ 32 → Passed rs r counts ends 0 counts ends
   passed-none h k = record {
     raised = record { long = h; ends-long = k; count = λ j l. absurd (omega arith); end = λ j l. absurd (omega arith) };
     rest = λ j l. refl;
     rest-ends = λ j l. refl;
   }
 
-  pub passed-next : (i : ℕ) (to to-ends : List ℕ) (more : ℕ) → i < 32 → more ≡ missingOf (getD ps i 0) (getD to-ends i 0) r
-      → Passed ps r counts ends i to to-ends
-      → Passed ps r counts ends (i + 1) (set to i (getD to i 0 + more)) (set to-ends i (getD to-ends i 0 + more * getD ps i 0))
+  pub passed-next : (i : ℕ) (to to-ends : List ℕ) (more : ℕ) → i < 32 → more ≡ missingOf (periodIn rs i) (getD to-ends i 0) r
+      → Passed rs r counts ends i to to-ends
+      → Passed rs r counts ends (i + 1) (set to i (getD to i 0 + more)) (set to-ends i (getD to-ends i 0 + more * periodIn rs i))
   passed-next i to to-ends more h e p = record {
     raised = record {
       long = simp length-set (p .raised .long);
       ends-long = simp length-set (p .raised .ends-long);
-      count = below-more (λ j. getD (set to i c) j 0 ≡ getD counts j 0 + missingOf (getD ps j 0) (getD ends j 0) r) i
+      count = below-more (λ j. getD (set to i c) j 0 ≡ getD counts j 0 + missingOf (periodIn rs j) (getD ends j 0) r) i
           (λ j l. getD-set-other to i j c 0 (λ z. omega arith) ∙ p .raised .count j l)
           (getD-set-same to i c 0 (omega (arith, p .raised .long)) ∙ rw (e, p .rest i (omega arith), p .rest-ends i (omega arith)) refl);
-      end = below-more (λ j. getD (set to-ends i d) j 0 ≡ getD ends j 0 + missingOf (getD ps j 0) (getD ends j 0) r * getD ps j 0) i
+      end = below-more (λ j. getD (set to-ends i d) j 0 ≡ getD ends j 0 + missingOf (periodIn rs j) (getD ends j 0) r * periodIn rs j) i
           (λ j l. getD-set-other to-ends i j d 0 (λ z. omega arith) ∙ p .raised .end j l)
           (getD-set-same to-ends i d 0 (omega (arith, p .raised .ends-long)) ∙ rw (e, p .rest-ends i (omega arith)) refl);
     };
@@ -135,34 +135,34 @@ module _ (ps : List ℕ) (r : ℕ) (counts ends : List ℕ) where
       c = getD to i 0 + more
 
       d : ℕ
-      d = getD to-ends i 0 + more * getD ps i 0
+      d = getD to-ends i 0 + more * periodIn rs i
 
 -- ---- counts to start from
 
-module _ {own n limit : ℕ} {ps js ws : List ℕ} (handed : Handed own ps js ws n limit) where
+module _ {own n limit : ℕ} {rs ws : List ℕ} (handed : Handed own rs ws n limit) where
   pub handed-counting : Counting own ws n
-  handed-counting = record { few = handed .few; own-most = handed .own-most; weights = handed .weights; weight = λ j l. handed .ranged j l .weight }
+  handed-counting = record { few = handed .few; own-most = handed .own-most; weights = handed .weighed; weight = λ j l. handed .ranged j l .weight }
 
-  pub handed-periodic : Periodic ps n
-  handed-periodic = record { periods = handed .periods; live = λ j l. handed .ranged j l .period; most = λ j l. handed .ranged j l .period-most }
+  pub handed-periodic : Periodic rs n
+  handed-periodic = record { long = omega (arith, handed .released); live = λ j l. handed .ranged j l .period; most = λ j l. handed .ranged j l .period-most }
 
-  pub handed-firsts : (n ≤ 32) × (n ≤ length ps) × (n ≤ length js) × ((j : ℕ) → j < n → getD js j 0 ≤ getD ps j 0)
-  handed-firsts = (handed .few, handed .periods, handed .jitters, λ j l. handed .ranged j l .jitter)
+  pub handed-firsts : (n ≤ 32) × (32 + n ≤ length rs) × ((j : ℕ) → j < n → jitterIn rs j ≤ periodIn rs j)
+  handed-firsts = (handed .few, handed .released, λ j l. handed .ranged j l .jitter)
 
   -- one activation of each term
-  pub ones-started : Started own (flat ps js ws) n (replicate 32 1) (front 0 (firstEnd ps js) n)
+  pub ones-started : Started own (termIn rs ws) n (replicate 32 1) (front 0 (firstEnd rs) n)
   ones-started = record {
     long = length-replicate {A = ℕ} 32 1;
     ends-long = front-long 0 _ n (handed .few);
-    soon = λ j l. rw (front-at 0 (firstEnd ps js) n j 0 l) (omega (arith, handed .ranged j l .period-most));
-    holds = λ j l. rw (front-at 0 (firstEnd ps js) n j 0 l, one j l) (omega (arith, handed .ranged j l .jitter));
-    under = λ s e j l. rw (one j l) (activations-some s _ (handed .ranged j l) (omega (arith, handed .own-least, demand-own own (flat ps js ws) s n)));
+    soon = λ j l. rw (front-at 0 (firstEnd rs) n j 0 l) (omega (arith, handed .ranged j l .period-most));
+    holds = λ j l. rw (front-at 0 (firstEnd rs) n j 0 l, one j l) (omega (arith, handed .ranged j l .jitter));
+    under = λ s e j l. rw (one j l) (activations-some s _ (handed .ranged j l) (omega (arith, handed .own-least, demand-own own (termIn rs ws) s n)));
   }
     where
       one : (j : ℕ) → j < n → getD {A = ℕ} (replicate 32 1) j 0 ≡ 1
       one j l = getD-replicate {A = ℕ} 32 j 1 0 (omega (arith, handed .few))
 
-  module _ {counts ends : List ℕ} (started : Started own (flat ps js ws) n counts ends) where
+  module _ {counts ends : List ℕ} (started : Started own (termIn rs ws) n counts ends) where
     pub started-kept : Kept n counts ends
     started-kept = record {
       long = started .long;
@@ -173,24 +173,24 @@ module _ {own n limit : ℕ} {ps js ws : List ℕ} (handed : Handed own ps js ws
     }
 
     -- the search may go on from what they ask for
-    pub asked-reached : Reached (demandOf own (flat ps js ws) n) (askedOf own ws counts n)
+    pub asked-reached : Reached (demandOf own (termIn rs ws) n) (askedOf own ws counts n)
     asked-reached =
-        reached-below _ (demand-mono (flat ps js ws) n own (handed .ranged)) _
-        (λ s e. omega (arith, asked-under own ws ps js counts s n (started .under s e)))
+        reached-below _ (demand-mono (termIn rs ws) n own (handed .ranged)) _
+        (λ s e. omega (arith, asked-under own ws rs counts s n (started .under s e)))
 
     -- and ends there where all of them hold up to it
-    pub asked-settled : (r : ℕ) → r ≡ askedOf own ws counts n → ((j : ℕ) → j < n → r ≤ getD ends j 0) → r ≡ demandOf own (flat ps js ws) n r
+    pub asked-settled : (r : ℕ) → r ≡ askedOf own ws counts n → ((j : ℕ) → j < n → r ≤ getD ends j 0) → r ≡ demandOf own (termIn rs ws) n r
     asked-settled r is hold =
-        le-antisymm (rw (← is) at (asked-reached .rises)) (rw (← is) at (asked-over own ws ps js counts r n covers))
+        le-antisymm (rw (← is) at (asked-reached .rises)) (rw (← is) at (asked-over own ws rs counts r n covers))
       where
-        covers : (j : ℕ) → j < n → activationsOf r (flat ps js ws j) ≤ getD counts j 0
+        covers : (j : ℕ) → j < n → activationsOf r (termIn rs ws j) ≤ getD counts j 0
         covers j l =
-            ceil-le (r + getD js j 0) (getD counts j 0) (getD ps j 0) (handed .ranged j l .period) .1
+            ceil-le (r + jitterIn rs j) (getD counts j 0) (periodIn rs j) (handed .ranged j l .period) .1
             (omega (arith, hold j l, started .holds j l))
 
     -- raised up to a time that no solution is below
-    pub raised-started : (r : ℕ) (to to-ends : List ℕ) → r ≤ 250000000 → Reached (demandOf own (flat ps js ws) n) r
-        → Raised ps r counts ends n to to-ends → Started own (flat ps js ws) n to to-ends
+    pub raised-started : (r : ℕ) (to to-ends : List ℕ) → r ≤ 250000000 → Reached (demandOf own (termIn rs ws) n) r
+        → Raised rs r counts ends n to to-ends → Started own (termIn rs ws) n to to-ends
     raised-started r to to-ends h at p = record {
       long = p .long;
       ends-long = p .ends-long;
@@ -200,14 +200,14 @@ module _ {own n limit : ℕ} {ps js ws : List ℕ} (handed : Handed own ps js ws
       under = λ s e j l. rw (p .count j l) (raised-under s e j l (started .under s e j l));
     }
       where
-        raised-under : (s : ℕ) → s ≡ demandOf own (flat ps js ws) n s → (j : ℕ) → j < n → getD counts j 0 ≤ activationsOf s (flat ps js ws j)
-            → getD counts j 0 + missingOf (getD ps j 0) (getD ends j 0) r ≤ activationsOf s (flat ps js ws j)
+        raised-under : (s : ℕ) → s ≡ demandOf own (termIn rs ws) n s → (j : ℕ) → j < n → getD counts j 0 ≤ activationsOf s (termIn rs ws j)
+            → getD counts j 0 + missingOf (periodIn rs j) (getD ends j 0) r ≤ activationsOf s (termIn rs ws j)
         raised-under s e j l k =
             let c = getD counts j 0 in
-            let a = activationsOf s (flat ps js ws j) in
+            let a = activationsOf s (termIn rs ws j) in
             let is : c + (a - c) ≡ a = omega arith in
-            let m = missing-under (getD ps j 0) (getD ends j 0) r (handed .ranged j l .period) (getD js j 0) c (a - c) (started .holds j l)
-            (rw is (omega (arith, at .below s e, ceil-mul (s + getD js j 0) (getD ps j 0) (handed .ranged j l .period)))) in
+            let m = missing-under (periodIn rs j) (getD ends j 0) r (handed .ranged j l .period) (jitterIn rs j) c (a - c) (started .holds j l)
+            (rw is (omega (arith, at .below s e, ceil-mul (s + jitterIn rs j) (periodIn rs j) (handed .ranged j l .period)))) in
             omega arith
 
 -- a task without terms has nothing to count

@@ -52,9 +52,9 @@ module _ (ws : List ℕ) (k : ℕ) (c : CacheSet) where
       e3 = getD-set-same (third ws k c) (at + 3) (c .w3) 0 (simp length-set (omega arith))
 
   -- a word that is none of the four
-  beside : (q : ℕ) → ((r : ℕ) → r < 4 → q ≡ 4 * k + r → ⊥) → getD (storedAt ws k c) q 0 ≡ getD ws q 0
+  pub stored-beside : (q : ℕ) → ((r : ℕ) → r < 4 → q ≡ 4 * k + r → ⊥) → getD (storedAt ws k c) q 0 ≡ getD ws q 0
   unfolding storedAt
-  beside q n =
+  stored-beside q n =
       getD-set-other (third ws k c) (4 * k + 3) q (c .w3) 0 (n 3 (omega arith))
       ∙ getD-set-other (second ws k c) (4 * k + 2) q (c .w2) 0 (n 2 (omega arith))
       ∙ getD-set-other (first ws k c) (4 * k + 1) q (c .w1) 0 (n 1 (omega arith))
@@ -63,8 +63,18 @@ module _ (ws : List ℕ) (k : ℕ) (c : CacheSet) where
   pub stored-other : (l : ℕ) → (l ≡ k → ⊥) → heldAt (storedAt ws k c) l ≡ heldAt ws l
   unfolding heldAt
   stored-other l n = λ i. record {
-    w0 = beside (4 * l) (λ r h z. n (omega arith)) i;
-    w1 = beside (4 * l + 1) (λ r h z. n (omega arith)) i;
-    w2 = beside (4 * l + 2) (λ r h z. n (omega arith)) i;
-    w3 = beside (4 * l + 3) (λ r h z. n (omega arith)) i;
+    w0 = stored-beside (4 * l) (λ r h z. n (omega arith)) i;
+    w1 = stored-beside (4 * l + 1) (λ r h z. n (omega arith)) i;
+    w2 = stored-beside (4 * l + 2) (λ r h z. n (omega arith)) i;
+    w3 = stored-beside (4 * l + 3) (λ r h z. n (omega arith)) i;
   }
+
+-- a number that is put in beside a set leaves it
+pub held-beside : (ws : List ℕ) (p v k : ℕ) → ((r : ℕ) → r < 4 → 4 * k + r ≡ p → ⊥) → heldAt (set ws p v) k ≡ heldAt ws k
+unfolding heldAt
+held-beside ws p v k n = λ i. record {
+  w0 = getD-set-other ws p (4 * k) v 0 (λ z. n 0 (omega arith) (omega arith)) i;
+  w1 = getD-set-other ws p (4 * k + 1) v 0 (n 1 (omega arith)) i;
+  w2 = getD-set-other ws p (4 * k + 2) v 0 (n 2 (omega arith)) i;
+  w3 = getD-set-other ws p (4 * k + 3) v 0 (n 3 (omega arith)) i;
+}

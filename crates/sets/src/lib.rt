@@ -98,9 +98,9 @@ impl CacheSet {
         }
     }
 
-    // Puts the set at position `k` of 32.
-    pub fn store(self, words: &mut [u64; 128], k: usize)
-        requires { ⌜ (k < 32) × (length (now words) ≡ 128) ⌝ }
+    // Puts the set at position `k` of a list of words.
+    pub fn store(self, words: &mut [u64], k: usize)
+        requires { ⌜ 4 * k + 4 ≤ length (now words) ⌝ }
         ensures { λ _. ⌜ now (words .exit) ≡ storedAt (now (words .entry)) k self ⌝ }
     {
         let at = 4 * k;

@@ -1,6 +1,6 @@
 -- A task and its name.
 -- Assumes nothing.
-use Prim.Native.Nat.{ℕ}
+use Prim.Native.Nat.{ℕ, _+_, _-_}
 use mathlib.Core.List.{List, [], _++_}
 use lib.ListN.{length, take, drop, replicate}
 use Rattle.text.specs.Cut.{upTo}
@@ -22,6 +22,13 @@ noSets = record { w0 = 0; w1 = 0; w2 = 0; w3 = 0 }
 -- the name of a task
 abbrev pub nameIn : Task → Name
 nameIn t = t .name
+
+-- C + B and D - J of a task
+abbrev pub ownOf : Task → ℕ
+ownOf t = t .work .0 + t .blocking .0
+
+abbrev pub limitOf : Task → ℕ
+limitOf t = t .deadline .0 - t .jitter .0
 
 -- what stands in a place of a table that has no task
 abbrev pub emptyTask : Task

@@ -1,73 +1,104 @@
 -- `carried::weigh_row` meets its contract: the columns before j are carried past row i, and their weights are put in. Assumes nothing.
-use Prim.Native.Nat.{_-_, _≤_}
-use mathlib.Core.Path.{_≡_, sym, ap, _∙_}
+use Prim.Native.Nat.{_+_, _-_, _≤_, _<_}
+use mathlib.Core.Path.{_≡_, ap, _∙_}
 use native.Mathlib.Omega.{arith}
-use lib.ListN.{getD}
 use Rattle.sets.specs.Words.{members}
-use Rattle.costs.specs.Lent.{weightIn}
-use Rattle.carried.specs.Carried.{columnOf, Down, Put, InRow}
+use Rattle.demand.specs.Positions.{hp}
+use Rattle.board.specs.Board.{ucbOn, ecbOn}
+use Rattle.board.proofs.LentLaws.{lent-few, lent-long, lent-brt, lent-ranged}
+use Rattle.costs.specs.Gather.{unionOf}
+use Rattle.costs.specs.Costs.{weightOn}
+use Rattle.carried.specs.Carried.{Carried, Passing, Put, InRow}
 use Rattle.carried.proofs.PutLaws.{row-none, row-next}
-use Rattle.carried.proofs.CarriedLaws.{column-next, down-next, columns-next, pair-weighed}
+use Rattle.carried.proofs.CarriedLaws.{carried-next, carried-small, passing-none, passing-next, pair-weighed}
 use borrow.Author.Needs.{needs}
 use Rattle.carried.proofs.weigh_row.Statement.{statement}
 use Rattle.carried.proofs.weigh_row.Tie as tie
 
 abbrev Inv-loop : tie.InvT-loop
-Inv-loop works ucb ecb above evicting brt i most₀ all₀ shared₀ weights₀ marks useful j₀ most all shared weights j =
-    (j ≤ i) × Down ucb ecb i j most all shared × Put (InRow j) (λ m b. weightIn works (brt .0) ucb ecb m i b) weights₀ weights
+Inv-loop board i ledger₀ weights₀ brt marks useful j₀ ledger weights j =
+    (j ≤ i) × Passing board i j ledger × Put (InRow j) (λ m b. weightOn board m i b) weights₀ weights
 
 abbrev μ-loop : tie.MeasureT-loop
-μ-loop works ucb ecb above evicting brt i most₀ all₀ shared₀ weights₀ marks useful j₀ most all shared weights j = i - j
+μ-loop board i ledger₀ weights₀ brt marks useful j₀ ledger weights j = i - j
 
 loop-holds : tie.Need-loop-holds Inv-loop μ-loop
-loop-holds c = let p = c .before .before .before .before .before .before .before .pre in (omega arith, p .2, row-none _ (p .3))
+loop-holds c = let p = c .before .before .before .before .pre in (omega arith, passing-none _ (p .1), row-none _ (p .2))
 
-gather-requires : tie.Need-gather-requires Inv-loop μ-loop
-gather-requires c κs =
-    let h = c .before .before .before .before .before .before .before in
-    let few = h .before .before .before .before .before .before .before .before .pre .0 .few in
-    let small = h .loop .inv .1 .ahead (h .loop .j) (omega arith) (omega arith) .small in
-    (record { most = small .most; shared = small .shared }, h .before .size .ensures .0)
+-- the row is one of the 32
+few : (c : tie.At-loop Inv-loop μ-loop) → c .before .before .before .before .before .args .i < 32
+few c = omega (arith, lent-few (c .before .before .before .before .before .pre .0))
 
-store-requires : tie.Need-store-requires Inv-loop μ-loop
-store-requires c κs = let h = c .before .before .before .before .before .before .before .before .before in (omega (arith, h .before .before .before .before .before .before .before .before .pre .0 .few), h .loop .inv .1 .all-long)
+-- what is gathered for j goes one row further
+further : (c : tie.After-gather Inv-loop μ-loop) → let h = c .before .before .before .before .before .before .before .before in let a = h .before .before .before .before .before .args in
+    Carried (ucbOn (a .board .now)) (unionOf (ecbOn (a .board .now)) (hp (h .loop .j + 1))) (h .loop .j) (a .i + 1) (c .gather .result)
+further c =
+    let column = c .before .before .before .before in
+    let inside = column .before .before .before in
+    let h = inside .before in
+    let here = h .loop .inv .1 .ahead (h .loop .j) (omega arith) (inside .loop-test .taken) in
+    carried-next _ _ (h .loop .j) _ _ _ _ (inside .loop-test .taken) (ap members (h .before .before .at .ensures))
+    (rw (c .before .gathered-for .ensures) (here .gathered)) (rw (ap members (column .at2 .ensures) ∙ here .above) at (c .gather .ensures))
+
+gathered-for-requires : tie.Need-gathered-for-requires Inv-loop μ-loop
+gathered-for-requires c κs =
+    let h = c .before .before .before .before .before .before in (omega (arith, few h), h .loop .inv .1 .long)
+
+keep-requires : tie.Need-keep-requires Inv-loop μ-loop
+keep-requires c κs =
+    let h = c .before .before .before .before .before .before .before .before .before in (omega (arith, few h), h .loop .inv .1 .long)
+
+-- the columns down to j are carried past the row
+passed : (c : tie.After-keep Inv-loop μ-loop) → let h = c .before .before .before .before .before .before .before .before .before .before in
+    Passing (h .before .before .before .before .before .args .board .now) (h .before .before .before .before .before .args .i) (h .loop .j + 1) (c .keep .last .0)
+passed c =
+    let gathered = c .before .before in
+    let h = gathered .before .before .before .before .before .before .before .before in
+    rw (c .keep .ensures) (passing-next _ _ _ (h .loop .j) _ (gathered .before .before .before .before .before .before .before .loop-test .taken) (few h) (h .loop .inv .1) (further gathered))
 
 put-pair-requires : tie.Need-put-pair-requires Inv-loop μ-loop
 put-pair-requires c κs =
-    let inside = c .before .before .before .before .before .before .before .before .before .before .before .before .before in
+    let evictor = c .before .before in
+    let kept = evictor .before .before in
+    let gathered = kept .before .before in
+    let inside = gathered .before .before .before .before .before .before .before in
     let h = inside .before in
-    let p = h .before .before .before .before .before .before .before .before .pre in
-    let j = h .loop .j in
-    (omega (arith, p .0 .few), p .0 .works-most j (omega arith), p .0 .brt-most, rw (c .before .before .before .at4 .ensures) (p .1 .sizes j (inside .loop-test .taken)), c .before .before .before .before .before .before .gather .ensures .small, h .loop .inv .2 .long)
+    let p = h .before .before .before .before .before .pre .0 in
+    let j = h .loop .j in (
+      omega (arith, few h),
+      lent-ranged p j (omega arith) .work,
+      lent-brt p,
+      rw (evictor .at3 .ensures) (passed kept .past j (omega arith) .evicting),
+      carried-small _ _ j _ _ (further gathered),
+      h .loop .inv .2 .long,
+    )
 
 loop-again : tie.Need-loop-again Inv-loop μ-loop
 loop-again c =
-    let inside = c .before .before .before .before .before .before .before .before .before .before .before .before .before .before in
-    let h = inside .before in
-    let s = h .before .before .before .before .before .before .before .before in
-    let few = s .pre .0 .few in
-    let marks = ap members (h .before .before .at .ensures) in
-    let above = ap members (c .before .before .before .before .before .before .before .before .at3 .ensures) ∙ s .pre .1 .unions (h .loop .j) (inside .loop-test .taken) in
-    let j = h .loop .j in
-    let here : columnOf (h .loop .most) (h .loop .all) (h .loop .shared) j ≡ record { most = record { 0 = getD (h .loop .most) j 0 }; all = c .before .before .before .before .before .before .before .before .before .before .at2 .result; shared = record { 0 = getD (h .loop .shared) j 0 } } =
-    rw (c .before .before .before .before .before .before .before .before .before .before .at2 .ensures)
-    in
-    let further =
-    column-next _ _ (h .loop .most) (h .loop .all) (h .loop .shared) _ j _ _ _ _ (inside .loop-test .taken) (h .loop .inv .1 .ahead j (omega arith) (omega arith)) (sym here) marks above (c .before .before .before .before .before .before .before .gather .ensures)
-    in (
-      omega arith,
-      rw (c .before .before .before .before .before .store .ensures) (down-next _ _ _ _ _ _ j _ (omega arith) (h .loop .inv .1) further),
-      row-next j (omega arith) (h .loop .inv .2) (pair-weighed (s .args .works .now) (s .args .brt .0) _ _ _ j _ _ further (ap members (c .before .before .before .before .at4 .ensures)) (c .put-pair .ensures)),
+    let evictor = c .before .before .before in
+    let kept = evictor .before .before in
+    let gathered = kept .before .before in
+    let inside = gathered .before .before .before .before .before .before .before in
+    let h = inside .before in (
+      omega (arith, inside .loop-test .taken),
+      passed kept,
+      row-next (h .loop .j) (omega (arith, few h)) (h .loop .inv .2)
+          (pair-weighed _ _ (h .loop .j) _ _ (further gathered) (ap members (evictor .at3 .ensures)) (c .put-pair .ensures)),
     )
+
+add-column-requires : tie.Need-add-column-requires Inv-loop μ-loop
+add-column-requires c κs =
+    let h = c .before .before in
+    let s = h .before .before .before .before .before in
+    let e : h .loop .j ≡ s .args .i = omega arith in (s .pre .0, rw e at (h .loop .inv .1))
 
 returns : tie.Need-returns Inv-loop μ-loop
 returns c =
-    let h = c .before in
-    let e : h .loop .j ≡ h .before .before .before .before .before .before .before .before .args .i = omega arith in
+    let h = c .before .before .before in
+    let e : h .loop .j ≡ h .before .before .before .before .before .args .i = omega arith in
     record {
-      columns = columns-next _ _ _ _ _ _ (rw e at (h .loop .inv .1));
-      long = h .loop .inv .2 .long;
-      each = λ m b k l. h .loop .inv .2 .each m b (k, omega arith);
+      carried = c .add-column .ensures;
+      weighed = record { long = h .loop .inv .2 .long; each = λ m b k l. h .loop .inv .2 .each m b (k, omega arith) };
     }
 
 pub weigh-row-spec : {M : Type 1} → statement M
@@ -76,28 +107,26 @@ weigh-row-spec =
     (tie.spec
     Inv-loop
     μ-loop
-    (λ c κs. omega (arith, c .before .before .before .before .before .pre .0 .ucb-long))
+    (λ c. omega (arith, lent-long (c .before .before .pre .0)))
+    (λ c. omega (arith, lent-few (c .before .before .pre .0)))
+    (λ c κs. let p = c .before .before .pre .0 in omega (arith, lent-few p, lent-long p))
     (λ c κs. search needs)
     loop-holds
-    (λ c. omega (arith, c .before .before .before .before .before .before .before .before .before .pre .0 .few))
-    (λ c. let h = c .before in omega (arith, h .loop .inv .1 .most-long, h .before .before .before .before .before .before .before .before .pre .0 .few))
-    (λ c κs. let h = c .before .before .before .before in omega (arith, h .loop .inv .1 .all-long, h .before .before .before .before .before .before .before .before .pre .0 .few))
-    (λ c. omega (arith, c .before .before .before .before .before .before .before .before .before .before .before .before .before .pre .0 .few))
-    (λ c. let h = c .before .before .before .before .before in omega (arith, h .loop .inv .1 .shared-long, h .before .before .before .before .before .before .before .before .pre .0 .few))
-    (λ c κs. let p = c .before .before .before .before .before .before .before .before .before .before .before .before .before .before .pre in omega (arith, p .0 .few, p .1 .above-long))
-    gather-requires
-    (λ c. omega (arith, c .before .before .before .before .before .before .before .before .before .before .before .before .before .before .before .before .pre .0 .few))
-    (λ c. let h = c .before .before .before .before .before .before .before .before in omega (arith, h .loop .inv .1 .most-long, h .before .before .before .before .before .before .before .before .pre .0 .few))
-    store-requires
-    (λ c. omega (arith, c .before .before .before .before .before .before .before .before .before .before .before .before .before .before .before .before .before .before .pre .0 .few))
-    (λ c. let h = c .before .before .before .before .before .before .before .before .before .before in omega (arith, h .loop .inv .1 .shared-long, h .before .before .before .before .before .before .before .before .pre .0 .few))
-    (λ c κs. let p = c .before .before .before .before .before .before .before .before .before .before .before .before .before .before .before .before .before .before .pre in omega (arith, p .0 .ecb-long))
-    (λ c. omega (arith, c .before .before .before .before .before .before .before .before .before .before .before .before .before .before .before .before .before .before .before .before .pre .0 .few))
-    (λ c. let p = c .before .before .before .before .before .before .before .before .before .before .before .before .before .before .before .before .before .before .before .before .before .pre in omega (arith, p .0 .works-long))
-    (λ c. omega (arith, c .before .before .before .before .before .before .before .before .before .before .before .before .before .before .before .before .before .before .before .before .before .pre .0 .few))
-    (λ c. let p = c .before .before .before .before .before .before .before .before .before .before .before .before .before .before .before .before .before .before .before .before .before .before .pre in omega (arith, p .0 .few, p .1 .evicting-long))
+    (λ c κs. let h = c .before .before .before in omega (arith, few h, h .loop .inv .1 .long))
+    gathered-for-requires
+    (λ c κs. c .before .before .before .before .before .before .before .before .size .ensures .0)
+    keep-requires
+    (λ c. omega (arith, few (c .before .before .before .before .before .before .before .before .before .before)))
+    (λ c. omega (arith, few (c .before .before .before .before .before .before .before .before .before .before)))
+    (λ c. let h = c .before .before .before .before .before .before .before .before .before .before .before in omega (arith, few h, lent-long (h .before .before .before .before .before .pre .0)))
+    (λ c. omega (arith, few (c .before .before .before .before .before .before .before .before .before .before .before)))
+    (λ c κs. let h = c .before .before .before .before .before .before .before .before .before .before .before in omega (arith, few h, lent-long (h .before .before .before .before .before .pre .0)))
+    (λ c. omega (arith, few (c .before .before .before .before .before .before .before .before .before .before .before .before)))
+    (λ c. omega (arith, few (c .before .before .before .before .before .before .before .before .before .before .before .before)))
+    (λ c. omega (arith, few (c .before .before .before .before .before .before .before .before .before .before .before .before), passed (c .before .before) .long))
     put-pair-requires
-    (λ c. omega (arith, c .before .before .before .before .before .before .before .before .before .before .before .before .before .before .before .loop .inv .0, c .before .before .before .before .before .before .before .before .before .before .before .before .before .before .before .before .before .before .before .before .before .before .before .pre .0 .few))
-    (λ c. omega (arith, c .before .before .before .before .before .before .before .before .before .before .before .before .before .before .loop-test .taken, c .before .before .before .before .before .before .before .before .before .before .before .before .before .before .before .before .before .before .before .before .before .before .before .pre .0 .few))
+    (λ c. let inside = c .before .before .before .before .before .before .before .before .before .before .before .before .before .before in omega (arith, inside .loop-test .taken, few (inside .before)))
+    (λ c. omega (arith, c .before .before .before .before .before .before .before .before .before .before .before .before .before .before .loop-test .taken))
     loop-again
+    add-column-requires
     returns)

@@ -4,7 +4,8 @@ use native.Mathlib.Omega.{arith}
 use Rattle.sets.specs.declared.CacheSet.{CacheSet}
 use Rattle.sets.specs.Sets.{Set, _∩_, size}
 use Rattle.sets.specs.Words.{members}
-use Rattle.sets.specs.Stored.{setAt}
+use Rattle.board.specs.Board.{ucbOn, ecbOn}
+use Rattle.board.proofs.LentLaws.{lent-few, lent-long}
 use Rattle.costs.specs.Gather.{aff, largestOf}
 use Rattle.costs.proofs.CostLaws.{count-of}
 use borrow.Author.Needs.{needs}
@@ -13,54 +14,56 @@ use Rattle.costs.proofs.reloads.Tie as tie
 
 returns : tie.Need-returns
 returns c =
-    let a = c .before .before .before .args in count-of (setAt (a .ucb .now)) (setAt (a .ecb .now)) (a .i) (a .j) _ 0 (omega arith)
+    let a = c .before .before .args in count-of (ucbOn (a .board .now)) (ecbOn (a .board .now)) (a .i) (a .j) _ 0 (omega arith)
 
 returns-2 : tie.Need-returns-2
 returns-2 c =
-    let a = c .before .before .before .before .before .args in
+    let a = c .before .before .before .before .args in
     c .size .ensures .0
     ∙ ap (λ (s : CacheSet). size (members s)) (c .before .at .ensures)
-    ∙ count-of (setAt (a .ucb .now)) (setAt (a .ecb .now)) (a .i) (a .j) _ 1 (omega arith)
+    ∙ count-of (ucbOn (a .board .now)) (ecbOn (a .board .now)) (a .i) (a .j) _ 1 (omega arith)
 
 returns-3 : tie.Need-returns-3
 returns-3 c =
-    let a = c .before .before .before .before .args in
-    c .largest-over .ensures ∙ count-of (setAt (a .ucb .now)) (setAt (a .ecb .now)) (a .i) (a .j) _ 2 (omega arith)
+    let a = c .before .before .before .args in
+    c .largest-over .ensures ∙ count-of (ucbOn (a .board .now)) (ecbOn (a .board .now)) (a .i) (a .j) _ 2 (omega arith)
 
 returns-4 : tie.Need-returns-4
 returns-4 c =
-    let a = c .before .before .before .before .before .before .before .args in
+    let a = c .before .before .before .before .before .before .args in
     c .size2 .ensures .0
     ∙ ap size (c .before .intersection .ensures ∙ ap₂ _∩_ (c .before .before .before .union-over .ensures) (ap members (c .before .before .at2 .ensures)))
-    ∙ count-of (setAt (a .ucb .now)) (setAt (a .ecb .now)) (a .i) (a .j) _ 3 (omega arith)
+    ∙ count-of (ucbOn (a .board .now)) (ecbOn (a .board .now)) (a .i) (a .j) _ 3 (omega arith)
 
 returns-5 : tie.Need-returns-5
 returns-5 c =
-    let a = c .before .before .before .before .before .args in
+    let a = c .before .before .before .before .args in
     c .largest-shared .ensures
-    ∙ ap (λ (A : Set). largestOf (λ k. size (setAt (a .ucb .now) k ∩ A)) (aff (a .i) (a .j))) (c .before .union-over2 .ensures)
-    ∙ count-of (setAt (a .ucb .now)) (setAt (a .ecb .now)) (a .i) (a .j) _ 4 (omega arith)
+    ∙ ap (λ (A : Set). largestOf (λ k. size (ucbOn (a .board .now) k ∩ A)) (aff (a .i) (a .j))) (c .before .union-over2 .ensures)
+    ∙ count-of (ucbOn (a .board .now)) (ecbOn (a .board .now)) (a .i) (a .j) _ 4 (omega arith)
 
 pub reloads-spec : {M : Type 1} → statement M
 reloads-spec =
     tie.close
     (tie.spec
+    (λ c. let p = c .before .before .pre .2 in omega (arith, lent-few p))
+    (λ c κs. let p = c .before .before .pre .2 in omega (arith, lent-few p, lent-long p))
+    (λ c κs. search needs)
+    (λ c. search needs)
+    (λ c. let p = c .before .before .pre .2 in omega (arith, lent-few p))
+    (λ c κs. let p = c .before .before .pre .2 in omega (arith, lent-few p, lent-long p))
+    (λ c. search needs)
+    (λ c. let p = c .before .before .pre .2 in omega (arith, lent-few p))
+    (λ c κs. let p = c .before .before .pre .2 in omega (arith, lent-few p, lent-long p))
+    (λ c. let p = c .before .before .before .pre .2 in omega (arith, lent-few p))
+    (λ c κs. let p = c .before .before .before .pre .2 in omega (arith, lent-few p, lent-long p))
     (λ c κs. search needs)
     (λ c κs. search needs)
     (λ c. search needs)
+    (λ c. let p = c .before .before .pre .2 in omega (arith, lent-few p))
     (λ c. search needs)
-    (λ c κs. search needs)
-    (λ c. search needs)
-    (λ c. search needs)
-    (λ c κs. search needs)
-    (λ c κs. search needs)
-    (λ c κs. search needs)
-    (λ c κs. search needs)
-    (λ c. search needs)
-    (λ c. search needs)
-    (λ c. search needs)
-    (λ c κs. search needs)
-    (λ c κs. search needs)
+    (λ c κs. let p = c .before .before .pre .2 in omega (arith, lent-few p, lent-long p))
+    (λ c κs. let p = c .before .before .before .pre .2 in omega (arith, lent-few p, lent-long p))
     returns
     returns-2
     returns-3

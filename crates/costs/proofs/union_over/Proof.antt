@@ -1,5 +1,5 @@
 -- `costs::union_over` meets its contract. The loop's invariant: `all` is the union over the positions before k. Assumes nothing.
-use Prim.Native.Nat.{_-_, _≤_}
+use Prim.Native.Nat.{_+_, _-_, _≤_}
 use mathlib.Core.Path.{_≡_, sym, ap, _∙_}
 use native.Mathlib.Omega.{arith}
 use borrow.Author.Needs.{needs}
@@ -14,13 +14,13 @@ use Rattle.costs.proofs.union_over.Statement.{statement}
 use Rattle.costs.proofs.union_over.Tie as tie
 
 abbrev Inv-loop : tie.InvT-loop
-Inv-loop words from to all₀ k₀ all k = (from ≤ k) × (k ≤ to) × (members all ≡ unionOf (setAt words) (between from k))
+Inv-loop words first from to all₀ k₀ all k = (from ≤ k) × (k ≤ to) × (members all ≡ unionOf (λ k. setAt words (first + k)) (between from k))
 
 abbrev μ-loop : tie.MeasureT-loop
-μ-loop words from to all₀ k₀ all k = to - k
+μ-loop words first from to all₀ k₀ all k = to - k
 
 loop-holds : tie.Need-loop-holds Inv-loop μ-loop
-loop-holds c = let a = c .before .args in (omega arith, omega arith, members-empty ∙ sym (none _∪_ ∅ (setAt (a .words .now)) (a .from)))
+loop-holds c = let a = c .before .args in (omega arith, omega arith, members-empty ∙ sym (none _∪_ ∅ (λ k. setAt (a .words .now) (a .first + k)) (a .from)))
 
 loop-again : tie.Need-loop-again Inv-loop μ-loop
 loop-again c =
@@ -28,7 +28,7 @@ loop-again c =
     let a = h .before .before .args in (
       omega arith,
       omega arith,
-      c .union .ensures ∙ next _∪_ ∅ (setAt (a .words .now)) (a .from) (h .loop .k) _ _ (h .loop .inv .0) (h .loop .inv .2) (ap members (c .before .at .ensures)),
+      c .union .ensures ∙ next _∪_ ∅ (λ k. setAt (a .words .now) (a .first + k)) (a .from) (h .loop .k) _ _ (h .loop .inv .0) (h .loop .inv .2) (ap members (c .before .at .ensures)),
     )
 
 returns : tie.Need-returns Inv-loop μ-loop
@@ -41,6 +41,7 @@ union-over-spec =
     Inv-loop
     μ-loop
     loop-holds
+    (λ c. omega arith)
     (λ c κs. omega arith)
     (λ c κs. search needs)
     (λ c. omega arith)

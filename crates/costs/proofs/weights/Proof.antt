@@ -2,48 +2,51 @@
 use Prim.Native.Nat.{ℕ, _+_, _-_, _*_, _≤_}
 use mathlib.Core.Path.{_≡_, ap, _∙_}
 use native.Mathlib.Omega.{arith}
-use lib.ListN.{getD}
-use Rattle.sets.specs.Stored.{setAt}
 use Rattle.demand.specs.Positions.{front}
-use Rattle.costs.specs.Lent.{weightIn}
 use Rattle.demand.proofs.FrontLaws.{front-none, front-next}
+use Rattle.board.specs.Board.{workOn, ucbOn, ecbOn, brtOn}
+use Rattle.board.proofs.LentLaws.{lent-few, lent-long, lent-brt, lent-ranged}
+use Rattle.costs.specs.Costs.{weightOn}
 use Rattle.costs.proofs.CostLaws.{reloads-most}
 use Rattle.costs.proofs.weights.Statement.{statement}
 use Rattle.costs.proofs.weights.Tie as tie
 
 abbrev Inv-loop : tie.InvT-loop
-Inv-loop works ucb ecb brt method i all₀ j₀ all j = (j ≤ i) × (all ≡ front 0 (weightIn works (brt .0) ucb ecb method i) j)
+Inv-loop board method i brt all₀ j₀ all j = (j ≤ i) × (all ≡ front 0 (weightOn board method i) j)
 
 abbrev μ-loop : tie.MeasureT-loop
-μ-loop works ucb ecb brt method i all₀ j₀ all j = i - j
+μ-loop board method i brt all₀ j₀ all j = i - j
 
 loop-holds : tie.Need-loop-holds Inv-loop μ-loop
 loop-holds c = (omega arith, front-none 0 _)
 
+reloads-requires : tie.Need-reloads-requires Inv-loop μ-loop
+reloads-requires c κs = let p = c .before .before .before .before .before .pre in (p .0, omega arith, p .1)
+
 weight-requires : tie.Need-weight-requires Inv-loop μ-loop
 weight-requires c κs =
     let h = c .before .before .before in
-    let s = h .before .before .before .before in
+    let s = h .before .before .before in
     let a = s .args in (
-      s .pre .1 .works-most (h .loop .j) (omega arith),
-      omega (arith, c .reloads .ensures, reloads-most (setAt (a .ucb .now)) (setAt (a .ecb .now)) (a .i) (h .loop .j) (a .method)),
-      s .pre .1 .brt-most,
+      lent-ranged (s .pre .1) (h .loop .j) (omega arith) .work,
+      omega (arith, c .reloads .ensures, reloads-most (ucbOn (a .board .now)) (ecbOn (a .board .now)) (a .i) (h .loop .j) (a .method)),
+      lent-brt (s .pre .1),
     )
 
 loop-again : tie.Need-loop-again Inv-loop μ-loop
 loop-again c =
     let h = c .before .before .before .before in
-    let s = h .before .before .before .before in
+    let s = h .before .before .before in
     let a = s .args in
-    let few = s .pre .1 .few in (
+    let few = lent-few (s .pre .1) in (
       omega arith,
-      rw (h .loop .inv .1) (front-next 0 (weightIn (a .works .now) (a .brt .0) (a .ucb .now) (a .ecb .now) (a .method) (a .i)) (h .loop .j) _ (omega arith)
-          (c .weight .ensures ∙ ap (λ (n : ℕ). getD (a .works .now) (h .loop .j) 0 + a .brt .0 * n) (c .before .reloads .ensures))),
+      rw (h .loop .inv .1) (front-next 0 (weightOn (a .board .now) (a .method) (a .i)) (h .loop .j) _ (omega arith)
+          (c .weight .ensures ∙ ap (λ (n : ℕ). workOn (a .board .now) (h .loop .j) + brtOn (a .board .now) * n) (c .before .reloads .ensures))),
     )
 
 returns : tie.Need-returns Inv-loop μ-loop
 returns c =
-    let e : c .before .loop .j ≡ c .before .before .before .before .before .args .i = omega arith in rw e at (c .before .loop .inv .1)
+    let e : c .before .loop .j ≡ c .before .before .before .before .args .i = omega arith in rw e at (c .before .loop .inv .1)
 
 pub weights-spec : {M : Type 1} → statement M
 weights-spec =
@@ -51,14 +54,16 @@ weights-spec =
     (tie.spec
     Inv-loop
     μ-loop
+    (λ c. omega (arith, lent-long (c .before .before .pre .1)))
     loop-holds
-    (λ c. omega arith)
-    (λ c. omega arith)
-    (λ c κs. omega arith)
+    (λ c. omega (arith, lent-few (c .before .before .before .before .pre .1)))
+    (λ c. omega (arith, lent-few (c .before .before .before .before .pre .1)))
+    (λ c. let p = c .before .before .before .before .before .pre .1 in omega (arith, lent-few p, lent-long p))
+    reloads-requires
     weight-requires
-    (λ c. omega arith)
-    (λ c. omega arith)
-    (λ c. omega arith)
+    (λ c. omega (arith, lent-few (c .before .before .before .before .before .before .before .pre .1)))
+    (λ c. omega (arith, lent-few (c .before .before .before .before .before .before .before .pre .1)))
+    (λ c. omega (arith, lent-few (c .before .before .before .before .before .before .before .pre .1)))
     (λ c. omega arith)
     loop-again
     returns)

@@ -4,33 +4,33 @@ use native.Mathlib.Omega.{arith}
 use Rattle.demand.specs.Demand.{demandOf}
 use Rattle.demand.specs.Least.{Reached}
 use Rattle.demand.proofs.LeastLaws.{found, past}
-use Rattle.demand.specs.Flat.{flat}
+use Rattle.demand.specs.Terms.{termIn}
 use Rattle.demand.proofs.DemandLaws.{handed-for}
 use Rattle.demand.proofs.HastenLaws.{full}
 use Rattle.demand.proofs.hasten.Statement.{statement}
 use Rattle.demand.proofs.hasten.Tie as tie
 
 abbrev Inv-loop : tie.InvT-loop
-Inv-loop own periods jitters weights n limit start r₀ reach₀ r reach =
-    Reached (demandOf own (flat periods jitters weights) n) r × (reach ≤ 17200000000000000000)
+Inv-loop own releases weights n limit start r₀ reach₀ r reach =
+    Reached (demandOf own (termIn releases weights) n) r × (reach ≤ 17200000000000000000)
 
 abbrev μ-loop : tie.MeasureT-loop
-μ-loop own periods jitters weights n limit start r₀ reach₀ r reach = suc limit - r
+μ-loop own releases weights n limit start r₀ reach₀ r reach = suc limit - r
 
 left-by-requires : tie.Need-left-by-requires Inv-loop μ-loop
-left-by-requires c κs = handed-for (c .before .before .before .pre .0) (omega arith) (omega arith) (omega arith)
+left-by-requires c κs = handed-for (c .before .before .pre .0) (omega arith) (omega arith) (omega arith)
 
 returns : tie.Need-returns Inv-loop μ-loop
 returns c =
-    let p = c .before .before .before .before .before .pre .0 in
+    let p = c .before .before .before .before .pre .0 in
     full _ _ _ _ (p .ranged) (p .own-least) (omega arith)
 
 loop-holds : tie.Need-loop-holds Inv-loop μ-loop
-loop-holds c = let p = c .before .before .before .before .before .pre in (p .2, omega (arith, p .1, p .0 .time))
+loop-holds c = let p = c .before .before .before .before .pre in (p .2, omega (arith, p .1, p .0 .time))
 
 turn-at-requires : tie.Need-turn-at-requires Inv-loop μ-loop
 turn-at-requires c κs =
-    (c .before .before .before .before .before .before .before .pre .0, omega arith, c .before .loop .inv .1)
+    (c .before .before .before .before .before .before .pre .0, omega arith, c .before .loop .inv .1)
 
 returns-2 : tie.Need-returns-2 Inv-loop μ-loop
 returns-2 c =

@@ -10,12 +10,12 @@ use Rattle.response.proofs.advance.Statement.{statement}
 use Rattle.response.proofs.advance.Tie as tie
 
 abbrev Inv-loop : tie.InvT-loop
-Inv-loop own periods weights n r counts₀ ends₀ sum₀ i₀ counts ends sum i =
+Inv-loop own releases weights n r counts₀ ends₀ sum₀ i₀ counts ends sum i =
     (i ≤ n) × (sum ≡ askedOf own weights counts i) × (sum ≤ own + i * 500000000000000000)
-    × Passed periods r counts₀ ends₀ i counts ends
+    × Passed releases r counts₀ ends₀ i counts ends
 
 abbrev μ-loop : tie.MeasureT-loop
-μ-loop own periods weights n r counts₀ ends₀ sum₀ i₀ counts ends sum i = n - i
+μ-loop own releases weights n r counts₀ ends₀ sum₀ i₀ counts ends sum i = n - i
 
 loop-holds : tie.Need-loop-holds Inv-loop μ-loop
 loop-holds c =
@@ -44,7 +44,7 @@ add-count c = omega (arith, count-most (c .before .before .before .before), c .b
 
 -- how far the end at i moves
 moved : (c : tie.After-missing Inv-loop μ-loop) → let l = c .before .before .before .before in
-    c .missing .result * getD (l .before .before .before .args .periods .now) (l .loop .i) 0 ≤ 250000000 * 250000000
+    c .missing .result * getD (l .before .before .before .args .releases .now) (l .loop .i) 0 ≤ 250000000 * 250000000
 moved c =
     let l = c .before .before .before .before in
     mul-le-mul {n₂ = 250000000} {m₂ = 250000000} (c .missing .ensures .1) (l .before .before .before .pre .1 .most (l .loop .i) (omega arith))

@@ -9,24 +9,24 @@ use Rattle.response.proofs.first_ends.Statement.{statement}
 use Rattle.response.proofs.first_ends.Tie as tie
 
 abbrev Inv-loop : tie.InvT-loop
-Inv-loop periods jitters n ends₀ i₀ ends i = (i ≤ n) × (ends ≡ front 0 (firstEnd periods jitters) i)
+Inv-loop releases n ends₀ i₀ ends i = (i ≤ n) × (ends ≡ front 0 (firstEnd releases) i)
 
 abbrev μ-loop : tie.MeasureT-loop
-μ-loop periods jitters n ends₀ i₀ ends i = n - i
+μ-loop releases n ends₀ i₀ ends i = n - i
 
 loop-holds : tie.Need-loop-holds Inv-loop μ-loop
 loop-holds c = (omega arith, front-none 0 _)
 
 sub-ends : tie.Need-sub-ends Inv-loop μ-loop
 sub-ends c =
-    let l = c .before .before .before in omega (arith, l .before .pre .3 (l .loop .i) (omega arith))
+    let l = c .before .before .before in omega (arith, l .before .pre .2 (l .loop .i) (omega arith))
 
 loop-again : tie.Need-loop-again Inv-loop μ-loop
 loop-again c =
     let l = c .before .before .before in
     let a = l .before .args in (
       omega arith,
-      rw (l .loop .inv .1) (front-next 0 (firstEnd (a .periods .now) (a .jitters .now)) (l .loop .i) _ (omega arith) refl),
+      rw (l .loop .inv .1) (front-next 0 (firstEnd (a .releases .now)) (l .loop .i) _ (omega arith) refl),
     )
 
 returns : tie.Need-returns Inv-loop μ-loop
@@ -39,6 +39,7 @@ first-ends-spec =
     Inv-loop
     μ-loop
     loop-holds
+    (λ c. omega arith)
     (λ c. omega arith)
     (λ c. omega arith)
     (λ c. omega arith)

@@ -1,5 +1,7 @@
 -- `sets::CacheSet::store` meets its contract. Assumes nothing.
 use mathlib.Core.Path.{refl}
+use native.Mathlib.Omega.{arith}
+use lib.ListN.{length-set}
 use Rattle.sets.specs.Stored.{storedAt}
 use borrow.Author.Needs.{needs}
 use Rattle.sets.proofs.CacheSet.store.Statement.{statement}
@@ -18,11 +20,12 @@ store-spec =
     (λ c. search needs)
     (λ c. search needs)
     (λ c. search needs)
+    (λ c. simp length-set (omega arith))
     (λ c. search needs)
     (λ c. search needs)
+    (λ c. simp length-set (omega arith))
     (λ c. search needs)
     (λ c. search needs)
-    (λ c. search needs)
-    (λ c. search needs)
+    (λ c. simp length-set (omega arith))
     (λ c. search needs)
     returns)

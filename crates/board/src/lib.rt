@@ -1,0 +1,40 @@
+// The board: what the analysis is lent of a table, in one list. specs/Board.antt says what stands where.
+use table::Table;
+ghost use Prim.Native.Nat.{_≤_};
+ghost use mathlib.Core.Path.{_≡_};
+ghost use lib.ListN.{length};
+ghost use Rattle.table.specs.Accepted.{AcceptedTable};
+ghost use Rattle.board.specs.Board.{BoardOf};
+
+// Where each kind of number starts. It starts itself with the periods and the jitters, as a list of releases does.
+pub const WORKS: usize = 64;
+
+pub const OWNS: usize = 96;
+
+pub const LIMITS: usize = 128;
+
+// Where the sets start, counted in sets of four words.
+pub const UCBS: usize = 40;
+
+pub const ECBS: usize = 72;
+
+// Where the block reload time stands.
+pub const BRT: usize = 416;
+
+// The board of the first `n` tasks of a table.
+pub fn fill(table: Table, n: usize, board: &mut [u64; 417])
+    requires { ⌜ (n ≤ table .count) × AcceptedTable table × (length (now board) ≡ 417) ⌝ }
+    ensures { λ _. ⌜ BoardOf table n (now (board .exit)) ⌝ }
+{
+    board[BRT] = table.brt.0;
+    for k in 0..n {
+        let task = table.tasks[k];
+        board[k] = task.period.0;
+        board[demand::JITTERS + k] = task.jitter.0;
+        board[WORKS + k] = task.work.0;
+        board[OWNS + k] = task.work.0 + task.blocking.0;
+        board[LIMITS + k] = task.deadline.0 - task.jitter.0;
+        task.ucb.store(board, UCBS + k);
+        task.ecb.store(board, ECBS + k);
+    }
+}
