@@ -2,7 +2,7 @@
 ghost use mathlib.Core.Path.{_≡_};
 ghost use Prim.Native.Nat.{_-_, _≤_};
 ghost use lib.ListN.{length};
-ghost use Rattle.hex.specs.Hex.{hexDigit, digitSays, readHex, wordSays, wordsSay};
+ghost use Rattle.hex.specs.Hex.{hexDigit, digitSays, readHex, wordSays, fourWordsSay};
 
 // What a byte is as a hex digit.
 enum Digit {
@@ -50,7 +50,7 @@ pub enum Words {
 
 pub fn words_of(field: &[u8]) -> Words
     requires { ⌜ length (now field) ≤ 64 ⌝ }
-    ensures { λ r. ⌜ wordsSay r ≡ readHex 0 (now (field .entry)) ⌝ }
+    ensures { λ r. ⌜ fourWordsSay r ≡ readHex 0 (now (field .entry)) ⌝ }
 {
     // A word has sixteen digits, counted from the end. Where the digits run out, the words above have none and are 0.
     let end = field.len();

@@ -22,7 +22,7 @@ pub struct CacheSet {
 
 // What reading a text field answers.
 pub enum SetField {
-    Set(CacheSet),
+    Marks(CacheSet),
     Bad,
 }
 
@@ -123,7 +123,7 @@ impl CacheSet {
         let Words::Are(w3, w2, w1, w0) = hex::words_of(field) else {
             return SetField::Bad;
         };
-        SetField::Set(CacheSet { w0, w1, w2, w3 })
+        SetField::Marks(CacheSet { w0, w1, w2, w3 })
     }
 }
 

@@ -5,7 +5,7 @@ use sets::SetField;
 use units::Ticks;
 ghost use mathlib.Core.Path.{_≡_};
 ghost use Rattle.tasks.specs.Tasks.{packName};
-ghost use Rattle.tasks.specs.Said.{headSaid, isSet, setOf, fieldsSaid, taskSaid};
+ghost use Rattle.tasks.specs.Said.{headSaid, isMarks, marksOf, fieldsSaid, taskSaid};
 
 // A name of 1 to 12 bytes, filled up with zeros.
 pub struct Name {
@@ -77,20 +77,20 @@ fn pack_name(f: &[u8]) -> Name
     Name { bytes }
 }
 
-fn is_set(f: SetField) -> bool
-    ensures { λ r. ⌜ r ≡ isSet f ⌝ }
+fn is_marks(f: SetField) -> bool
+    ensures { λ r. ⌜ r ≡ isMarks f ⌝ }
 {
     match f {
-        SetField::Set(_) => true,
+        SetField::Marks(_) => true,
         SetField::Bad => false,
     }
 }
 
-fn set_of(f: SetField) -> CacheSet
-    ensures { λ r. ⌜ r ≡ setOf f ⌝ }
+fn marks_of(f: SetField) -> CacheSet
+    ensures { λ r. ⌜ r ≡ marksOf f ⌝ }
 {
     match f {
-        SetField::Set(set) => set,
+        SetField::Marks(marks) => marks,
         SetField::Bad => CacheSet::EMPTY,
     }
 }
@@ -126,8 +126,8 @@ fn fields_said(
         deadline: Ticks(fields::value_of(deadline)),
         jitter: Ticks(fields::value_of(jitter)),
         blocking: Ticks(fields::value_of(blocking)),
-        ucb: set_of(ucb),
-        ecb: set_of(ecb),
+        ucb: marks_of(ucb),
+        ecb: marks_of(ecb),
     };
     TaskLine {
         shaped,
@@ -137,7 +137,7 @@ fn fields_said(
             & fields::is_value(deadline)
             & fields::is_value(jitter)
             & fields::is_value(blocking),
-        marked: is_set(ucb) & is_set(ecb),
+        marked: is_marks(ucb) & is_marks(ecb),
         task,
     }
 }
