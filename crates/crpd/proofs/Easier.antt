@@ -12,13 +12,13 @@ use Rattle.demand.specs.declared.Response.{Response}
 use Rattle.demand.specs.declared.Response.the-variants as response
 use Rattle.table.specs.declared.Table.{Table}
 use Rattle.table.specs.declared.Verdict.the-variants as verdict
-use Rattle.table.specs.Reading.{readText}
+use Rattle.table.specs.Reading.{refusal, readText}
 use Rattle.table.proofs.AcceptedLaws.{accepted-table}
 use Rattle.costs.specs.Harder.{Harder}
 use Rattle.analysis.specs.Analysis.{responseOf}
 use Rattle.analysis.proofs.Orders.{harder-answers}
 use Rattle.crpd.specs.declared.Reply.the-variants.{Within, Unschedulable, Refused}
-use Rattle.crpd.specs.Operations.{refusal, answerOf, answerIn, answerTo}
+use Rattle.crpd.specs.Operations.{answerOf, answerIn, answerTo}
 
 -- a response that is answered is that of a task of the table
 pub record Answers (table : Table) (m i : ℕ) (R : Ticks) : Type 0 where

@@ -12,7 +12,7 @@ use Rattle.demand.specs.declared.Response.the-variants as response
 use Rattle.table.specs.declared.Refusal.{Refusal}
 use Rattle.table.specs.declared.Verdict.{Verdict}
 use Rattle.table.specs.declared.Verdict.the-variants as verdict
-use Rattle.table.specs.Reading.{readText}
+use Rattle.table.specs.Reading.{refusal, readText}
 use Rattle.table.proofs.Told.{Told, read-told}
 use Rattle.analysis.specs.Analysis.{responseOf}
 use Rattle.delivery.specs.declared.Written.{Written}
@@ -20,7 +20,7 @@ use Rattle.delivery.specs.declared.Written.the-variants as written
 use Rattle.delivery.specs.Delivery.{writtenOf, Delivered}
 use Rattle.crpd.specs.declared.Reply.{Reply}
 use Rattle.crpd.specs.declared.Reply.the-variants.{Within, Unschedulable, Refused}
-use Rattle.crpd.specs.Operations.{refusal, answerOf, answerIn, unlessRefused, answerTo, reportIn, reportAnswer, TextReported}
+use Rattle.crpd.specs.Operations.{answerOf, answerIn, unlessRefused, answerTo, reportIn, reportAnswer, TextReported}
 use Rattle.crpd.specs.Codes.{SmallRefusal, SmallWritten}
 
 -- a number up to 14 that tells no line

@@ -8,11 +8,10 @@ use lib.Dec.{leb, ltb}
 use lib.ListN.{length}
 use Rattle.demand.specs.declared.Response.{Response}
 use Rattle.demand.specs.declared.Response.the-variants as response
-use Rattle.table.specs.declared.Refusal.{Refusal}
 use Rattle.table.specs.declared.Table.{Table}
 use Rattle.table.specs.declared.Verdict.{Verdict}
 use Rattle.table.specs.declared.Verdict.the-variants as verdict
-use Rattle.table.specs.Reading.{readText}
+use Rattle.table.specs.Reading.{refusal, readText}
 use Rattle.analysis.specs.Analysis.{responseOf}
 use Rattle.delivery.specs.declared.Written.{Written}
 use Rattle.delivery.specs.declared.Written.the-variants as written
@@ -21,10 +20,6 @@ use Rattle.delivery.specs.Delivery.{writtenOf, bufferOf}
 use Rattle.delivery.specs.Error.{errorText}
 use Rattle.crpd.specs.declared.Reply.{Reply}
 use Rattle.crpd.specs.declared.Reply.the-variants.{Within, Unschedulable, Refused}
-
--- a refusal that tells no line
-abbrev pub refusal : ℕ → Refusal
-refusal n = record { number = n; line = 0 }
 
 -- ---- one answer
 

@@ -8,7 +8,7 @@ use lib.Dec.{leb, eqb}
 use Rattle.fields.specs.declared.NumberField.{NumberField}
 use Rattle.fields.specs.declared.NumberField.the-variants.{Value, Bad}
 use Rattle.text.specs.Cut.{field, fieldCount}
-use Rattle.fields.specs.Bytes.{all, isDigit, isNameByte}
+use Rattle.fields.specs.Bytes.{everyByte, isDigit, isNameByte}
 
 -- decimal digits, most significant first, after digits that say v
 unfoldable pub digitsFrom : ℕ → List ℕ → NumberField
@@ -47,4 +47,4 @@ hasShape letter fields line = isLetter letter (field 0 line) && eqb (fieldCount 
 
 -- up to twelve bytes, at least one, each a small letter, a digit or a dash
 unfoldable pub isName : List ℕ → Bool
-isName s = leb 1 (length s) && leb (length s) 12 && all isNameByte s
+isName s = leb 1 (length s) && leb (length s) 12 && everyByte isNameByte s

@@ -2,7 +2,7 @@
 ghost use mathlib.Core.Path.{_≡_};
 ghost use Prim.Native.Nat.{_≤_};
 ghost use lib.ListN.{length};
-ghost use Rattle.fields.specs.Bytes.{all, isDigit, isNameByte, same};
+ghost use Rattle.fields.specs.Bytes.{everyByte, isDigit, isNameByte, sameBytes};
 ghost use Rattle.fields.specs.Fields.{digitsFrom, readNumber, isName, isValue, valueOf, isLetter};
 
 // What a field says that is to be a number.
@@ -66,7 +66,7 @@ fn is_name_byte(b: u8) -> bool
 }
 
 fn all_name_bytes(f: &[u8]) -> bool
-    ensures { λ r. ⌜ r ≡ all isNameByte (now (f .entry)) ⌝ }
+    ensures { λ r. ⌜ r ≡ everyByte isNameByte (now (f .entry)) ⌝ }
 {
     let mut i = 0;
     while i < f.len() {
@@ -112,7 +112,7 @@ pub fn is_letter(f: &[u8], b: u8) -> bool
 }
 
 pub fn same_bytes(a: &[u8], b: &[u8]) -> bool
-    ensures { λ r. ⌜ r ≡ same (now (a .entry)) (now (b .entry)) ⌝ }
+    ensures { λ r. ⌜ r ≡ sameBytes (now (a .entry)) (now (b .entry)) ⌝ }
 {
     if a.len() != b.len() {
         return false;

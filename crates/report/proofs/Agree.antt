@@ -4,7 +4,7 @@ use mathlib.Core.List.{List, [], _∷_, _++_}
 use Prim.Native.Nat.{ℕ, _<_}
 use Rattle.demand.specs.declared.Response.{Response}
 use Rattle.tasks.specs.declared.Task.{Task}
-use Rattle.tasks.specs.Tasks.{nameOf}
+use Rattle.tasks.specs.Tasks.{nameText}
 use Rattle.table.specs.declared.Table.{Table}
 use Rattle.table.specs.Tasks.{at}
 use Rattle.writer.specs.Text.{spelled, line}
@@ -14,7 +14,7 @@ use Rattle.report.specs.Report.{answerText, limitOf, taskLine, reportOf}
 
 task-line-agrees : (t : Task) (f g : ℕ → Response) → ((m : ℕ) → m < 6 → f m ≡ g m) → taskLine t f ≡ taskLine t g
 unfolding taskLine
-task-line-agrees t f g h = ap (λ (texts : List (List ℕ)). line (82 ∷ []) (nameOf (t .name) ∷ spelled (limitOf t) ∷ texts)) (map-agree (λ m. answerText (f m)) (λ m. answerText (g m)) 6 (λ m k. ap answerText (h m k)))
+task-line-agrees t f g h = ap (λ (texts : List (List ℕ)). line (82 ∷ []) (nameText (t .name) ∷ spelled (limitOf t) ∷ texts)) (map-agree (λ m. answerText (f m)) (λ m. answerText (g m)) 6 (λ m k. ap answerText (h m k)))
 
 pub report-agrees : (table : Table) (f g : ℕ → ℕ → Response) → ((m i : ℕ) → m < 6 → i < table .count → f m i ≡ g m i) → reportOf table f ≡ reportOf table g
 unfolding reportOf

@@ -9,7 +9,7 @@ use lib.ListN.{length}
 use Rattle.demand.specs.declared.Response.{Response}
 use Rattle.demand.specs.declared.Response.the-variants.{Within, Unschedulable}
 use Rattle.tasks.specs.declared.Task.{Task}
-use Rattle.tasks.specs.Tasks.{nameOf}
+use Rattle.tasks.specs.Tasks.{nameText}
 use Rattle.text.specs.Cut.{upTo}
 use Rattle.writer.specs.Text.{spelled, field, flat}
 use Rattle.writer.proofs.Spelling.{spelled-short}
@@ -36,7 +36,7 @@ regroup : (a b c d e : List ℕ) → a ++ b ++ c ++ d ++ e ≡ a ++ (b ++ (c ++ 
 regroup a b c d e = simp append-assoc
 
 -- a task's line: its letter, name, limit, answers and LF
-pub task-parts : (t : Task) (answers : ℕ → Response) → (82 ∷ []) ++ field (nameOf (t .name)) ++ field (spelled (limitOf t)) ++ flat (λ m. field (answerText (answers m))) (below 6) ++ (10 ∷ []) ≡ taskLine t answers
+pub task-parts : (t : Task) (answers : ℕ → Response) → (82 ∷ []) ++ field (nameText (t .name)) ++ field (spelled (limitOf t)) ++ flat (λ m. field (answerText (answers m))) (below 6) ++ (10 ∷ []) ≡ taskLine t answers
 unfolding taskLine
 task-parts t answers =
-    rw (← flat-map field (λ m. answerText (answers m)) (below 6)) (regroup (82 ∷ []) (field (nameOf (t .name))) (field (spelled (limitOf t))) (flat field (map (λ m. answerText (answers m)) (below 6))) (10 ∷ []))
+    rw (← flat-map field (λ m. answerText (answers m)) (below 6)) (regroup (82 ∷ []) (field (nameText (t .name))) (field (spelled (limitOf t))) (flat field (map (λ m. answerText (answers m)) (below 6))) (10 ∷ []))

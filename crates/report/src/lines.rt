@@ -9,7 +9,7 @@ use writer::put_number_field;
 ghost use Prim.Native.Nat.{_+_, _≤_};
 ghost use mathlib.Core.List.{[], _∷_, _++_};
 ghost use lib.ListN.{length};
-ghost use Rattle.tasks.specs.Tasks.{nameOf};
+ghost use Rattle.tasks.specs.Tasks.{nameText};
 ghost use Rattle.table.specs.Tasks.{at};
 ghost use Rattle.writer.specs.Text.{spelled, field, flat};
 ghost use Rattle.writer.specs.Wrote.{Wrote};
@@ -47,7 +47,7 @@ fn put_answers(out: &mut [u8], at: usize, row: Row) -> usize
 fn put_head(out: &mut [u8], at: usize, task: Task) -> usize
     requires { ⌜ at + 24 ≤ length (now out) ⌝ }
     requires { ⌜ Limited task ⌝ }
-    ensures { λ r. ⌜ Wrote (now (out .entry)) at ((82 ∷ []) ++ field (nameOf (task .name)) ++ field (spelled (limitOf task))) (now (out .exit)) r × (r ≤ at + 24) ⌝ }
+    ensures { λ r. ⌜ Wrote (now (out .entry)) at ((82 ∷ []) ++ field (nameText (task .name)) ++ field (spelled (limitOf task))) (now (out .exit)) r × (r ≤ at + 24) ⌝ }
 {
     let bytes = task.name.bytes;
     let start = put_byte(out, at, b'R');

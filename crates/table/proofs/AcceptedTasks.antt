@@ -12,7 +12,7 @@ use Rattle.sets.specs.Words.{members}
 use Rattle.sets.specs.Field.{readSet}
 use Rattle.sets.proofs.FieldLaws.{read-below}
 use Rattle.tasks.specs.declared.Name.{Name}
-use Rattle.tasks.specs.Tasks.{nameOf, packName}
+use Rattle.tasks.specs.Tasks.{nameText, packName}
 use Rattle.tasks.specs.Said.{isMarks, marksOf, fieldsSaid, taskSaid}
 use Rattle.tasks.proofs.Names.{name-kept}
 use Rattle.faults.proofs.LineLaws.{TaskHolds, ranges, order}
@@ -48,6 +48,6 @@ module _ (sets : ℕ) (line : List ℕ) (count : ℕ) (names : List Name) (by-fo
         ecb = marks-below sets (field 8 line) _ by-four refl (marks .1);
       }
 
-  pub name-filled : taskSaid sets line .task .name ≡ packName (nameOf (taskSaid sets line .task .name))
+  pub name-filled : taskSaid sets line .task .name ≡ packName (nameText (taskSaid sets line .task .name))
   unfolding taskSaid fieldsSaid
   name-filled = rw (name-kept (field 1 line) is-name)

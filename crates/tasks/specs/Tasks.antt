@@ -1,6 +1,6 @@
--- A task and its name.
+-- A task, its name and its limit.
 -- Assumes nothing.
-use Prim.Native.Nat.{ℕ}
+use Prim.Native.Nat.{ℕ, _-_}
 use mathlib.Core.List.{List, [], _++_}
 use lib.ListN.{length, take, drop, replicate}
 use Rattle.text.specs.Cut.{upTo}
@@ -9,8 +9,8 @@ use Rattle.tasks.specs.declared.Name.{Name}
 use Rattle.tasks.specs.declared.Task.{Task}
 
 -- the bytes of a name, without the zeros that fill it up
-abbrev pub nameOf : Name → List ℕ
-nameOf n = upTo 0 (n .bytes)
+abbrev pub nameText : Name → List ℕ
+nameText n = upTo 0 (n .bytes)
 
 -- a name in 12 bytes, filled up with zeros
 abbrev pub packName : List ℕ → Name
@@ -22,6 +22,10 @@ noSets = record { w0 = 0; w1 = 0; w2 = 0; w3 = 0 }
 -- the name of a task
 abbrev pub nameIn : Task → Name
 nameIn t = t .name
+
+-- D - J of a task
+abbrev pub limitOf : Task → ℕ
+limitOf task = task .deadline .0 - task .jitter .0
 
 -- what stands in a place of a table that has no task
 abbrev pub emptyTask : Task
