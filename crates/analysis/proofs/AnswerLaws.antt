@@ -15,17 +15,19 @@ use Rattle.demand.specs.Flat.{flat, Handed}
 use Rattle.demand.specs.Least.{leastOf, LeastWithin, sooner}
 use Rattle.demand.proofs.LeastLaws.{leastOf-least}
 use Rattle.demand.proofs.DemandLaws.{demand-same}
+use Rattle.tasks.specs.Tasks.{limitOf}
 use Rattle.table.specs.declared.Table.{Table}
+use Rattle.table.specs.Tasks.{at}
 use Rattle.table.specs.Accepted.{AcceptedTable}
 use Rattle.costs.specs.Costs.{ucb, ecb, reloadsOf, termAt}
 use Rattle.costs.specs.Lent.{Lent, weightIn}
 use Rattle.demand.proofs.FrontLaws.{front-at, front-long}
 use Rattle.costs.proofs.OrderLaws.{reloads-same, term-ranged}
-use Rattle.analysis.specs.Analysis.{ownOf, limitOf, answerOf, withCombined, responseOf}
+use Rattle.analysis.specs.Analysis.{ownOf, answerOf, withCombined, responseOf}
 use Rattle.analysis.specs.Lists.{Numbers, Sets, leastIn, weightsIn, singleIn, TaskHanded}
 
 -- what an answer means
-pub answer-means : (table : Table) (m i : ℕ) → LeastWithin (demandOf (ownOf table i) (termAt table m i) i) (limitOf table i) (answerOf table m i)
+pub answer-means : (table : Table) (m i : ℕ) → LeastWithin (demandOf (ownOf table i) (termAt table m i) i) (limitOf (at table i)) (answerOf table m i)
 unfolding answerOf
 answer-means table m i = leastOf-least _ _
 
@@ -95,7 +97,7 @@ module _ (table : Table) (accepted : AcceptedTable table) (n i : ℕ) (here : i 
   unfolding leastIn answerOf
   least-by m vs e =
       rw (numbers .own .each i here, numbers .limit .each i here)
-      (ap (λ (f : ℕ → ℕ). leastOf f (limitOf table i)) (demand-same (ownOf table i) _ _ i (term-is m vs e)))
+      (ap (λ (f : ℕ → ℕ). leastOf f (limitOf (at table i))) (demand-same (ownOf table i) _ _ i (term-is m vs e)))
 
   -- method 0 needs no sets
   plain : (j : ℕ) → j < i → getD ws j 0 ≡ weightAt table 0 i j

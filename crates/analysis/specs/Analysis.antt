@@ -1,31 +1,29 @@
 -- The response of the task at a position under a method.
-use Prim.Native.Nat.{ℕ, _+_, _-_, _≤_, _<_}
+use Prim.Native.Nat.{ℕ, _+_, _≤_, _<_}
 use mathlib.Core.Bool.{cond}
-use mathlib.Core.List.{List, [], _∷_, map}
+use mathlib.Core.List.{List, map}
 use lib.Dec.{eqb}
 use lib.ListN.{replicate}
-use Rattle.demand.specs.Positions.{front}
+use Rattle.demand.specs.Positions.{front, methods}
 use Rattle.demand.specs.declared.Response.{Response}
 use Rattle.demand.specs.declared.Response.the-variants.{Unschedulable}
 use Rattle.demand.specs.declared.Cell.{Cell}
 use Rattle.demand.specs.declared.Row.{Row}
 use Rattle.demand.specs.Demand.{demandOf}
 use Rattle.demand.specs.Least.{leastOf, sooner}
+use Rattle.tasks.specs.Tasks.{limitOf}
 use Rattle.table.specs.declared.Table.{Table}
 use Rattle.table.specs.Tasks.{at}
 use Rattle.table.specs.Accepted.{AcceptedTable}
 use Rattle.costs.specs.Costs.{termAt}
 
--- C + B and D - J of the task at i
+-- C + B of the task at i
 abbrev pub ownOf : Table → ℕ → ℕ
 ownOf table i = at table i .work .0 + at table i .blocking .0
 
-abbrev pub limitOf : Table → ℕ → ℕ
-limitOf table i = at table i .deadline .0 - at table i .jitter .0
-
 -- methods 0 to 4: the smallest R up to D - J that equals its demand
 unfoldable pub answerOf : Table → ℕ → ℕ → Response
-answerOf table m i = leastOf (demandOf (ownOf table i) (termAt table m i) i) (limitOf table i)
+answerOf table m i = leastOf (demandOf (ownOf table i) (termAt table m i) i) (limitOf (at table i))
 
 -- method 5 is the sooner of the answers of 3 and 4
 abbrev pub withCombined : (ℕ → Response) → ℕ → Response
@@ -34,13 +32,10 @@ withCombined A m = cond (eqb m 5) (sooner (A 3) (A 4)) (A m)
 unfoldable pub responseOf : Table → ℕ → ℕ → Response
 responseOf table m i = withCombined (λ m. answerOf table m i) m
 
--- the responses of the task at i under each method
-abbrev pub methods : List ℕ
-methods = 0 ∷ 1 ∷ 2 ∷ 3 ∷ 4 ∷ 5 ∷ []
-
 abbrev pub cell : Response → Cell
 cell r = record { response = r }
 
+-- the responses of the task at i under each method
 abbrev pub rowOf : Table → ℕ → Row
 rowOf table i = record { cells = map (λ m. cell (responseOf table m i)) methods }
 

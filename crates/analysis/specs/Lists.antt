@@ -9,10 +9,11 @@ use Rattle.demand.specs.declared.Response.{Response}
 use Rattle.demand.specs.Demand.{demandOf}
 use Rattle.demand.specs.Flat.{flat, Handed}
 use Rattle.demand.specs.Least.{leastOf}
+use Rattle.tasks.specs.Tasks.{limitOf}
 use Rattle.table.specs.declared.Table.{Table}
 use Rattle.table.specs.Tasks.{at}
 use Rattle.costs.specs.Lent.{Lent, weightIn}
-use Rattle.analysis.specs.Analysis.{ownOf, limitOf}
+use Rattle.analysis.specs.Analysis.{ownOf}
 
 -- a list of 32 numbers that has f at the first n positions
 pub record Listed (f : ℕ → ℕ) (n : ℕ) (xs : List ℕ) : Type 0 where
@@ -25,7 +26,7 @@ pub record Numbers (table : Table) (n : ℕ) (periods jitters works owns limits 
   pub jitter : Listed (λ k. at table k .jitter .0) n jitters
   pub work : Listed (λ k. at table k .work .0) n works
   pub own : Listed (ownOf table) n owns
-  pub limit : Listed (limitOf table) n limits
+  pub limit : Listed (λ k. limitOf (at table k)) n limits
 
 -- UCB and ECB of the first n tasks, in four words each
 pub record Sets (table : Table) (n : ℕ) (ucb ecb : List ℕ) : Type 0 where

@@ -8,7 +8,7 @@ use lib.ListN.{length, getD, set, drop, length-take, length-drop}
 use lib.Seq.{getD-take, getD-drop}
 use Rattle.sets.specs.Sets.{Set}
 use Rattle.sets.specs.Stored.{setAt}
-use Rattle.demand.specs.Positions.{front}
+use Rattle.demand.specs.Positions.{front, methods}
 use Rattle.demand.specs.declared.Response.{Response}
 use Rattle.demand.specs.declared.Response.the-variants.{Unschedulable}
 use Rattle.demand.specs.declared.Cell.{Cell}
@@ -25,7 +25,7 @@ use Rattle.costs.specs.Lent.{weightIn}
 use Rattle.carried.specs.Carried.{RowWeighed}
 use Rattle.demand.proofs.FrontLaws.{front-at, front-same}
 use Rattle.costs.proofs.OrderLaws.{ucb-union-least, ecb-union-least}
-use Rattle.analysis.specs.Analysis.{answerOf, withCombined, responseOf, methods, cell, rowOf, noRow, rowsOf}
+use Rattle.analysis.specs.Analysis.{answerOf, withCombined, responseOf, cell, rowOf, noRow, rowsOf}
 use Rattle.analysis.specs.Lists.{Numbers, Sets, leastIn, weightsIn, singleIn, TaskHanded}
 use Rattle.analysis.proofs.AnswerLaws.{plain-handed, task-handed, single-is}
 use Rattle.rows.specs.Rows.{rowIn, RowsHanded, Left, rowAt, answerIn, cheaper, RowHanded}

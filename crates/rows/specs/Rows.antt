@@ -5,9 +5,10 @@ use mathlib.Core.List.{List, [], _∷_, map}
 use lib.ListN.{getD, length, take, drop}
 use Rattle.demand.specs.declared.Response.{Response}
 use Rattle.demand.specs.declared.Row.{Row}
+use Rattle.demand.specs.Positions.{methods}
 use Rattle.demand.specs.Flat.{flat, Handed}
 use Rattle.response.specs.Counts.{Started}
-use Rattle.analysis.specs.Analysis.{withCombined, methods, cell}
+use Rattle.analysis.specs.Analysis.{withCombined, cell}
 use Rattle.analysis.specs.Lists.{leastIn, singleIn, TaskHanded}
 
 -- the row of answers for the task at i

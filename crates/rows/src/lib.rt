@@ -8,12 +8,12 @@ ghost use mathlib.Core.Path.{_≡_};
 ghost use mathlib.Core.List.{[], _∷_, map};
 ghost use Prim.Native.Nat.{_≤_, _<_};
 ghost use lib.ListN.{length, getD};
-ghost use Rattle.demand.specs.Positions.{front};
+ghost use Rattle.demand.specs.Positions.{front, methods};
 ghost use Rattle.demand.specs.Flat.{flat, Handed};
 ghost use Rattle.response.specs.Counts.{Started};
 ghost use Rattle.demand.specs.Least.{toldOf, sooner};
 ghost use Rattle.table.specs.Accepted.{AcceptedTable};
-ghost use Rattle.analysis.specs.Analysis.{withCombined, methods, cell, noRow, rowsOf};
+ghost use Rattle.analysis.specs.Analysis.{withCombined, cell, noRow, rowsOf};
 ghost use Rattle.rows.specs.Rows.{rowIn, RowsHanded, Left, rowAt, answerIn, cheaper, RowHanded};
 
 // The answer for the task at i in ticks under one of the methods 0 to 4, by the weights of its row, from `counts` and `ends` on; 0 for none.
