@@ -20,7 +20,7 @@ use Rattle.delivery.specs.declared.Written.the-variants as written
 use Rattle.delivery.specs.Delivery.{writtenOf, Delivered}
 use Rattle.crpd.specs.declared.Reply.{Reply}
 use Rattle.crpd.specs.declared.Reply.the-variants.{Within, Unschedulable, Refused}
-use Rattle.crpd.specs.Operations.{answerOf, answerIn, unlessRefused, answerTo, reportIn, reportAnswer, TextReported}
+use Rattle.crpd.specs.Operations.{replyOf, replyIn, unlessRefused, answerTo, reportIn, reportAnswer, TextReported}
 use Rattle.crpd.specs.Codes.{SmallRefusal, SmallWritten}
 
 -- a number up to 14 that tells no line
@@ -35,23 +35,23 @@ SmallReply (Within R) = Unit {0}
 SmallReply Unschedulable = Unit {0}
 SmallReply (Refused r) = SmallRefusal r
 
-answer-of-small : (a : Response) → SmallReply (answerOf a)
-answer-of-small (response.Within R) = tt
-answer-of-small response.Unschedulable = tt
+reply-of-small : (a : Response) → SmallReply (replyOf a)
+reply-of-small (response.Within R) = tt
+reply-of-small response.Unschedulable = tt
 
 reply-small : (text : List ℕ) (m i : ℕ) → SmallReply (answerTo text m i)
 unfolding answerTo
 reply-small text m i = method (ltb 5 m)
   where
-    position : (t : Bool) → SmallReply (cond t (Refused (refusal 13)) (answerOf (responseOf (readText text .table) m i)))
+    position : (t : Bool) → SmallReply (cond t (Refused (refusal 13)) (replyOf (responseOf (readText text .table) m i)))
     position true = small 13 (omega arith)
-    position false = answer-of-small (responseOf (readText text .table) m i)
+    position false = reply-of-small (responseOf (readText text .table) m i)
 
-    read : (v : Verdict) → readText text .verdict ≡ v → SmallReply (unlessRefused v (answerIn (readText text .table) m i))
+    read : (v : Verdict) → readText text .verdict ≡ v → SmallReply (unlessRefused Refused v (replyIn (readText text .table) m i))
     read verdict.Accepted e = position (leb (readText text .table .count) i)
     read (verdict.Refused r) e = told-small r (read-told text r e)
 
-    method : (t : Bool) → SmallReply (cond t (Refused (refusal 12)) (unlessRefused (readText text .verdict) (answerIn (readText text .table) m i)))
+    method : (t : Bool) → SmallReply (cond t (Refused (refusal 12)) (unlessRefused Refused (readText text .verdict) (replyIn (readText text .table) m i)))
     method true = small 12 (omega arith)
     method false = read (readText text .verdict) refl
 

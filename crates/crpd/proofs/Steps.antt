@@ -21,7 +21,7 @@ use Rattle.report.specs.Reported.{Reported}
 use Rattle.delivery.specs.Error.{errorText}
 use Rattle.delivery.proofs.Deliveries.{fitting}
 use Rattle.crpd.specs.declared.Reply.the-variants.{Refused}
-use Rattle.crpd.specs.Operations.{answerIn, answerTo, reportIn, printedOf, printed, TextReported}
+use Rattle.crpd.specs.Operations.{replyIn, answerTo, reportIn, printedOf, printed, TextReported}
 
 module _ (text : List ℕ) (o : Outcome) (read : o ≡ readText text) where
   verdict-is : (v : Verdict) → o .verdict ≡ v → readText text .verdict ≡ v
@@ -35,7 +35,7 @@ module _ (text : List ℕ) (o : Outcome) (read : o ≡ readText text) where
     unfolding answerTo
     answer-refused r e = rw (le-ltb _ _ method, verdict-is (verdict.Refused r) e)
 
-    pub answer-accepted : o .verdict ≡ verdict.Accepted → answerIn (o .table) m i ≡ answerTo text m i
+    pub answer-accepted : o .verdict ≡ verdict.Accepted → replyIn (o .table) m i ≡ answerTo text m i
     unfolding answerTo
     answer-accepted e = rw (le-ltb _ _ method, verdict-is verdict.Accepted e, read)
 

@@ -8,6 +8,7 @@ use lib.Dec.{leb, ltb}
 use lib.ListN.{length}
 use Rattle.demand.specs.declared.Response.{Response}
 use Rattle.demand.specs.declared.Response.the-variants as response
+use Rattle.table.specs.declared.Refusal.{Refusal}
 use Rattle.table.specs.declared.Table.{Table}
 use Rattle.table.specs.declared.Verdict.{Verdict}
 use Rattle.table.specs.declared.Verdict.the-variants as verdict
@@ -23,22 +24,23 @@ use Rattle.crpd.specs.declared.Reply.the-variants.{Within, Unschedulable
 
 -- ---- one answer
 
-abbrev pub answerOf : Response → Reply
-answerOf (response.Within R) = Within R
-answerOf response.Unschedulable = Unschedulable
+abbrev pub replyOf : Response → Reply
+replyOf (response.Within R) = Within R
+replyOf response.Unschedulable = Unschedulable
 
 -- in an accepted table: 13 where there is no task at the position
-abbrev pub answerIn : Table → ℕ → ℕ → Reply
-answerIn table m i = cond (leb (table .count) i) (Refused (refusal 13)) (answerOf (responseOf table m i))
+abbrev pub replyIn : Table → ℕ → ℕ → Reply
+replyIn table m i = cond (leb (table .count) i) (Refused (refusal 13)) (replyOf (responseOf table m i))
 
-abbrev pub unlessRefused : Verdict → Reply → Reply
-unlessRefused verdict.Accepted answer = answer
-unlessRefused (verdict.Refused r) answer = Refused r
+-- what is answered of an accepted text; of a refused one, what `told` gives of its refusal
+abbrev pub unlessRefused : {A : Type 0} → (Refusal → A) → Verdict → A → A
+unlessRefused told verdict.Accepted answer = answer
+unlessRefused told (verdict.Refused r) answer = told r
 
 -- 12 where there is no such method, then the text's refusals, then 13
 unfoldable pub answerTo : List ℕ → ℕ → ℕ → Reply
 answerTo text m i =
-    cond (ltb 5 m) (Refused (refusal 12)) (unlessRefused (readText text .verdict) (answerIn (readText text .table) m i))
+    cond (ltb 5 m) (Refused (refusal 12)) (unlessRefused Refused (readText text .verdict) (replyIn (readText text .table) m i))
 
 -- ---- the report
 

@@ -14,7 +14,7 @@ ghost use Rattle.table.specs.Accepted.{AcceptedTable};
 ghost use Rattle.writer.specs.Wrote.{Wrote};
 ghost use Rattle.analysis.specs.Analysis.{responseOf};
 ghost use Rattle.report.specs.Reported.{Reported};
-ghost use Rattle.crpd.specs.Operations.{answerOf, answerIn, answerTo, TextReported, printed};
+ghost use Rattle.crpd.specs.Operations.{replyOf, replyIn, answerTo, TextReported, printed};
 
 // What is answered of a task under a method.
 pub enum Reply {
@@ -23,8 +23,8 @@ pub enum Reply {
     Refused(Refusal),
 }
 
-fn answer_of(response: Response) -> Reply
-    ensures { λ r. ⌜ r ≡ answerOf response ⌝ }
+fn reply_of(response: Response) -> Reply
+    ensures { λ r. ⌜ r ≡ replyOf response ⌝ }
 {
     match response {
         Response::Within(time) => Reply::Within(time),
@@ -32,9 +32,9 @@ fn answer_of(response: Response) -> Reply
     }
 }
 
-fn answer_in(table: Table, method: u64, position: u64) -> Reply
+fn reply_in(table: Table, method: u64, position: u64) -> Reply
     requires { ⌜ (method ≤ 5) × AcceptedTable table ⌝ }
-    ensures { λ r. ⌜ r ≡ answerIn table method position ⌝ }
+    ensures { λ r. ⌜ r ≡ replyIn table method position ⌝ }
 {
     let count = table.count;
     if count as u64 <= position {
@@ -43,7 +43,7 @@ fn answer_in(table: Table, method: u64, position: u64) -> Reply
             line: 0,
         });
     }
-    answer_of(analysis::respond(table, method, position as usize))
+    reply_of(analysis::respond(table, method, position as usize))
 }
 
 // The answer for the task at a position under a method.
@@ -62,7 +62,7 @@ pub fn answer(text: &[u8], method: u64, position: u64) -> Reply
         return Reply::Refused(refusal);
     }
     let table = outcome.table;
-    answer_in(table, method, position)
+    reply_in(table, method, position)
 }
 
 fn report_in(table: Table, out: &mut [u8]) -> Written

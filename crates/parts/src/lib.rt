@@ -5,7 +5,7 @@ use table::Table;
 use table::Verdict;
 ghost use mathlib.Core.Path.{_≡_};
 ghost use Rattle.table.specs.Accepted.{AcceptedTable};
-ghost use Rattle.parts.specs.Parts.{turns, tasksIn, ticksOf, firstTicks, answered, lengthOf, Rewritten, lengthAfter, bufferAfter};
+ghost use Rattle.parts.specs.Parts.{turns, taskCount, ticksOf, firstTicks, answered, lengthOf, Rewritten, lengthAfter, bufferAfter};
 
 fn ticks(response: Response) -> u64
     ensures { λ r. ⌜ r ≡ ticksOf response ⌝ }
@@ -55,7 +55,7 @@ fn write(table: Table, times: u64, out: &mut [u8]) -> u64
 // The number of tasks of the table that a text says; 0 where it is refused.
 #[no_mangle]
 pub extern "C" fn bench_read(text: &[u8]) -> u64
-    ensures { λ r. ⌜ r ≡ tasksIn (now (text .entry)) ⌝ }
+    ensures { λ r. ⌜ r ≡ taskCount (now (text .entry)) ⌝ }
 {
     let outcome = table::read(text);
     let table = outcome.table;

@@ -25,13 +25,13 @@ returns-2 c =
 enum-told : tie.Need-enum-told
 enum-told c = search needs
 
-answer-in-requires : tie.Need-answer-in-requires
-answer-in-requires c κs =
+reply-in-requires : tie.Need-reply-in-requires
+reply-in-requires c κs =
     (search needs, accepted _ (c .before .before .before .read .result) (c .before .before .before .read .ensures) (c .before .enum-told .given .1))
 
 returns-3 : tie.Need-returns-3
 returns-3 c =
-    c .answer-in .ensures
+    c .reply-in .ensures
     ∙ answer-accepted _ (c .before .before .before .before .read .result) (c .before .before .before .before .read .ensures) _ _ (search needs) (c .before .before .enum-told .given .1)
 
 pub answer-spec : {M : Type 1} → statement M
@@ -43,5 +43,5 @@ answer-spec =
     enum-known-verdict
     returns-2
     enum-told
-    answer-in-requires
+    reply-in-requires
     returns-3)
