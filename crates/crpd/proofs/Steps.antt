@@ -27,8 +27,8 @@ module _ (text : List ℕ) (o : Outcome) (read : o ≡ readText text) where
   verdict-is : (v : Verdict) → o .verdict ≡ v → readText text .verdict ≡ v
   verdict-is v e = ap (λ (o : Outcome). o .verdict) (sym read) ∙ e
 
-  pub accepted : o .verdict ≡ verdict.Accepted → AcceptedTable (o .table)
-  accepted e = rw read (accepted-table text (verdict-is verdict.Accepted e))
+  pub outcome-accepted : o .verdict ≡ verdict.Accepted → AcceptedTable (o .table)
+  outcome-accepted e = rw read (accepted-table text (verdict-is verdict.Accepted e))
 
   module _ (m i : ℕ) (method : m ≤ 5) where
     pub answer-refused : (r : Refusal) → o .verdict ≡ verdict.Refused r → Refused r ≡ answerTo text m i

@@ -7,7 +7,7 @@ use mathlib.Core.Option.{bind}
 use Prim.Native.Nat.{ℕ}
 use Rattle.fields.specs.Bytes.{everyByte, sameBytes}
 use Rattle.text.specs.Cut.{upTo, after, occurrences, pastTabs, field, lines}
-use Rattle.fields.specs.Fields.{digitsFrom, readNumber, hasShape, isName}
+use Rattle.fields.specs.Fields.{readDigits, readNumber, hasShape, isName}
 use Rattle.hex.specs.Hex.{hexDigit, readHex}
 use Rattle.sets.specs.Field.{readSet}
 use Rattle.sets.specs.Sets.{∅, _∪_, _∩_, sizeBelow, size}
@@ -40,5 +40,5 @@ pub printed-of-table-a : printed text ≡
     82 ∷ 9 ∷ 98 ∷ 9 ∷ 52 ∷ 48 ∷ 9 ∷ 51 ∷ 9 ∷ 55 ∷ 9 ∷ 53 ∷ 9 ∷ 53 ∷ 9 ∷ 53 ∷ 9 ∷ 53 ∷ 10 ∷
     82 ∷ 9 ∷ 99 ∷ 9 ∷ 54 ∷ 48 ∷ 9 ∷ 53 ∷ 9 ∷ 49 ∷ 51 ∷ 9 ∷ 57 ∷ 9 ∷ 49 ∷ 49 ∷ 9 ∷ 57 ∷ 9 ∷ 57 ∷ 10 ∷
     86 ∷ 9 ∷ 121 ∷ 101 ∷ 115 ∷ 9 ∷ 121 ∷ 101 ∷ 115 ∷ 9 ∷ 121 ∷ 101 ∷ 115 ∷ 9 ∷ 121 ∷ 101 ∷ 115 ∷ 9 ∷ 121 ∷ 101 ∷ 115 ∷ 9 ∷ 121 ∷ 101 ∷ 115 ∷ 10 ∷ []
-unfolding printed everyByte sameBytes upTo after occurrences pastTabs field lines digitsFrom readNumber hasShape isName hexDigit readHex bind readSet ∅ _∪_ _∩_ sizeBelow size numberOf members wordsOf firstFault textFault headInRange headFault taskInRange taskInOrder knows taskFault endFault readFrom readLines readText headSaid fieldsSaid taskSaid at withTask demandOf firstOf leastOf run fold reloadsOf answerOf responseOf digitsOf spelled flatMap responseLine verdictLine reportOf
+unfolding printed everyByte sameBytes upTo after occurrences pastTabs field lines readDigits readNumber hasShape isName hexDigit readHex bind readSet ∅ _∪_ _∩_ sizeBelow size numberOf members wordsOf firstFault textFault headInRange headFault taskInRange taskInOrder knows taskFault endFault readFrom readLines readText headSaid fieldsSaid taskSaid at withTask demandOf firstOf leastOf run fold reloadsOf answerOf responseOf digitsOf spelled flatMap responseLine verdictLine reportOf
 printed-of-table-a = refl

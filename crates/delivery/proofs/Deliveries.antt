@@ -21,8 +21,8 @@ delivered {text} {out} {d} {r} fits w =
       buffer = rw (le-leb _ _ fits, ← end) (sym (take-append-drop r d) ∙ rw (w .front, w .rest));
     }
 
-pub refused : {text out : List ℕ} → length out < length text → Delivered text out (Refused (refusal 14)) out
-refused long = record { answer = rw (lt-leb _ _ long); buffer = rw (lt-leb _ _ long) }
+pub not-delivered : {text out : List ℕ} → length out < length text → Delivered text out (Refused (refusal 14)) out
+not-delivered long = record { answer = rw (lt-leb _ _ long); buffer = rw (lt-leb _ _ long) }
 
 -- what is delivered, of a text that fits and of one that does not
 pub fitting : {text out d : List ℕ} {r : Written} → length text ≤ length out → Delivered text out r d → (r ≡ Length (length text)) × Wrote out 0 text d (length text)

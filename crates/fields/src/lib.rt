@@ -3,7 +3,7 @@ ghost use mathlib.Core.Path.{_≡_};
 ghost use Prim.Native.Nat.{_≤_};
 ghost use lib.ListN.{length};
 ghost use Rattle.fields.specs.Bytes.{everyByte, isDigit, isNameByte, sameBytes};
-ghost use Rattle.fields.specs.Fields.{digitsFrom, readNumber, isName, isValue, valueOf, isLetter};
+ghost use Rattle.fields.specs.Fields.{readDigits, readNumber, isName, isValue, valueOf, isLetter};
 
 // What a field says that is to be a number.
 pub enum NumberField {
@@ -24,9 +24,9 @@ fn wide(x: u8) -> u64
 }
 
 // The number that up to nine digits say.
-fn digits(f: &[u8]) -> NumberField
+fn read_digits(f: &[u8]) -> NumberField
     requires { ⌜ length (now f) ≤ 9 ⌝ }
-    ensures { λ r. ⌜ r ≡ digitsFrom 0 (now (f .entry)) ⌝ }
+    ensures { λ r. ⌜ r ≡ readDigits 0 (now (f .entry)) ⌝ }
 {
     let mut v: u64 = 0;
     let mut i = 0;
@@ -42,7 +42,7 @@ fn digits(f: &[u8]) -> NumberField
 }
 
 // Up to nine digits with no leading zero; only `0` itself starts with one.
-pub fn number(f: &[u8]) -> NumberField
+pub fn read_number(f: &[u8]) -> NumberField
     ensures { λ r. ⌜ r ≡ readNumber (now (f .entry)) ⌝ }
 {
     let n = f.len();
@@ -53,7 +53,7 @@ pub fn number(f: &[u8]) -> NumberField
         return NumberField::Bad;
     }
     if (n == 1) | (f[0] != b'0') {
-        digits(f)
+        read_digits(f)
     } else {
         NumberField::Bad
     }

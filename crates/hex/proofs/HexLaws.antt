@@ -1,7 +1,7 @@
 -- Laws of hex digits and the numbers that they say. Assumes nothing.
 use mathlib.Core.Path.{_≡_, refl, sym, ap, ap₂, _∙_, subst, subst₂}
 use mathlib.Core.Logic.{_⊎_, inl, inr, ⊎-elim}
-use mathlib.Core.Bool.{Bool, true, false, _&&_, cond}
+use mathlib.Core.Bool.{Bool, true, false, _&&_, cond, and-eq-true-iff}
 use mathlib.Core.List.{List, [], _∷_, _++_}
 use mathlib.Core.Option.{Option, some, none, bind, bind-eq-some-iff}
 use Prim.Native.Nat.{ℕ, suc, _+_, _*_, _-_, _^_, _≤_, _<_, zero-le}
@@ -24,13 +24,9 @@ either true q x y d e = inl (refl, cc)
 either false true x y d e = inr (refl, cc)
 either false false x y d e = let z : _≡_ {A = ℕ} 0 1 = cc in absurd (omega arith)
 
-both : (a b : Bool) → (a && b) ≡ true → (a ≡ true) × (b ≡ true)
-both true b e = (refl, e)
-both false b e = (e, cc)
-
 in-run : (low high b : ℕ) → (leb low b && leb b high) ≡ true → (low ≤ b) × (b ≤ high)
 in-run low high b e =
-    let w = both (leb low b) (leb b high) e in
+    let w = and-eq-true-iff (leb low b) (leb b high) .0 e in
     (leb-true low b (w .0), leb-true b high (w .1))
 
 -- the two runs of bytes that are digits

@@ -6,7 +6,7 @@ use native.Mathlib.Nat.{mod-lt, div-one, zero-div, div-eq-of-lt, lt-of-lt-of-le}
 use native.Mathlib.Numerals.{one-add, add-one}
 use native.Mathlib.Omega.{arith}
 use lib.Arith.{lt-one, digits-lt}
-use lib.Pow.{pow-mono, shr-shr, shr-lt}
+use lib.Pow.{pow-mono, shr-shr, shr-lt, low, high, split}
 use lib.Bits.{bitAnd, bitOr, and-block, or-block, and-shr, or-shr, and-mod, or-mod}
 use lib.Count.{ones, ones-step, ones-cat}
 use lib.Dec.{eqb, lit<}
@@ -148,32 +148,23 @@ members-below c p s h =
 
 -- ---- a number's words
 
-low : (h w : ℕ) → w < 2 ^ 64 → (h * 2 ^ 64 + w) % 2 ^ 64 ≡ w
-low h w p = omega arith
-
-high : (h w : ℕ) → w < 2 ^ 64 → (h * 2 ^ 64 + w) / 2 ^ 64 ≡ h
-high h w p = omega arith
-
 pub words-number : (c : CacheSet) → WordsInRange c → wordsOf (numberOf c) ≡ c
 unfolding numberOf wordsOf
 words-number c p =
-    let e₁ = high ((c .w3 * 2 ^ 64 + c .w2) * 2 ^ 64 + c .w1) (c .w0) (p .in0) in
-    let e₂ = ap (λ (x : ℕ). x / 2 ^ 64) e₁ ∙ high (c .w3 * 2 ^ 64 + c .w2) (c .w1) (p .in1) in
-    let e₃ = ap (λ (x : ℕ). x / 2 ^ 64) e₂ ∙ high (c .w3) (c .w2) (p .in2) in
-    let r₀ = low _ (c .w0) (p .in0) in
-    let r₁ = ap (λ (x : ℕ). x % 2 ^ 64) e₁ ∙ low _ (c .w1) (p .in1) in
-    let r₂ = ap (λ (x : ℕ). x % 2 ^ 64) e₂ ∙ low (c .w3) (c .w2) (p .in2) in
+    let e₁ = high ((c .w3 * 2 ^ 64 + c .w2) * 2 ^ 64 + c .w1) 64 (p .in0) in
+    let e₂ = ap (λ (x : ℕ). x / 2 ^ 64) e₁ ∙ high (c .w3 * 2 ^ 64 + c .w2) 64 (p .in1) in
+    let e₃ = ap (λ (x : ℕ). x / 2 ^ 64) e₂ ∙ high (c .w3) 64 (p .in2) in
+    let r₀ = low _ 64 (p .in0) in
+    let r₁ = ap (λ (x : ℕ). x % 2 ^ 64) e₁ ∙ low _ 64 (p .in1) in
+    let r₂ = ap (λ (x : ℕ). x % 2 ^ 64) e₂ ∙ low (c .w3) 64 (p .in2) in
     λ i. record { w0 = r₀ i; w1 = r₁ i; w2 = r₂ i; w3 = e₃ i }
-
-split : (n : ℕ) → n / 2 ^ 64 * 2 ^ 64 + n % 2 ^ 64 ≡ n
-split n = omega arith
 
 pub number-words : (n : ℕ) → numberOf (wordsOf n) ≡ n
 unfolding numberOf wordsOf
 number-words n =
-    ap (λ (x : ℕ). (x * 2 ^ 64 + n / 2 ^ 64 % 2 ^ 64) * 2 ^ 64 + n % 2 ^ 64) (split (n / 2 ^ 64 / 2 ^ 64))
-    ∙ ap (λ (x : ℕ). x * 2 ^ 64 + n % 2 ^ 64) (split (n / 2 ^ 64))
-    ∙ split n
+    ap (λ (x : ℕ). (x * 2 ^ 64 + n / 2 ^ 64 % 2 ^ 64) * 2 ^ 64 + n % 2 ^ 64) (split (n / 2 ^ 64 / 2 ^ 64) 64)
+    ∙ ap (λ (x : ℕ). x * 2 ^ 64 + n % 2 ^ 64) (split (n / 2 ^ 64) 64)
+    ∙ split n 64
 
 -- the set that a number's words stand for has the number's bits
 pub members-words : (n : ℕ) → members (wordsOf n) ≡ bitsOf n

@@ -120,7 +120,7 @@ impl CacheSet {
         if field.len() as u64 != sets / 4 {
             return SetField::Bad;
         }
-        let Words::Are(w3, w2, w1, w0) = hex::words_of(field) else {
+        let Words::Are(w3, w2, w1, w0) = hex::read_words(field) else {
             return SetField::Bad;
         };
         SetField::Marks(CacheSet { w0, w1, w2, w3 })

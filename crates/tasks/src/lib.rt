@@ -50,8 +50,8 @@ pub fn head_said(line: &[u8]) -> HeadLine
     let sets_field = text::before(from_sets, b'\t');
     let from_brt = text::past(from_sets, b'\t', sets_field);
     let brt_field = text::before(from_brt, b'\t');
-    let sets = fields::number(sets_field);
-    let brt = fields::number(brt_field);
+    let sets = fields::read_number(sets_field);
+    let brt = fields::read_number(brt_field);
     HeadLine {
         shaped: fields::is_letter(letter, b'K')
             & (text::goes_on(from_sets, sets_field) & !text::goes_on(from_brt, brt_field)),
@@ -112,11 +112,11 @@ fn fields_said(
 {
     let named = fields::is_name(name);
     let name = pack_name(name);
-    let work = fields::number(work);
-    let period = fields::number(period);
-    let deadline = fields::number(deadline);
-    let jitter = fields::number(jitter);
-    let blocking = fields::number(blocking);
+    let work = fields::read_number(work);
+    let period = fields::read_number(period);
+    let deadline = fields::read_number(deadline);
+    let jitter = fields::read_number(jitter);
+    let blocking = fields::read_number(blocking);
     let ucb = CacheSet::from_field(ucb, sets);
     let ecb = CacheSet::from_field(ecb, sets);
     let task = Task {

@@ -32,8 +32,8 @@ reading e w = rw e at w
 pub one-more : {d₀ d : List ℕ} {at : ℕ} (text : List ℕ) (i : ℕ) → i < length text → at + i < length d → Wrote d₀ at (take i text) d (at + i) → Wrote d₀ at (take (i + 1) text) (set d (at + i) (getD text i 0)) (at + (i + 1))
 one-more {d} {at} text i p q w = rw (add-one i, take-suc text i 0) (rw (← add-one i, ← add-assoc) (w then one-byte d (at + i) (getD text i 0) q))
 
-pub whole : {d₀ d : List ℕ} {at r i : ℕ} {text : List ℕ} → length text ≤ i → Wrote d₀ at (take i text) d r → Wrote d₀ at text d r
-whole p w = rw (take-all _ _ p) at w
+pub whole-text : {d₀ d : List ℕ} {at r i : ℕ} {text : List ℕ} → length text ≤ i → Wrote d₀ at (take i text) d r → Wrote d₀ at text d r
+whole-text p w = rw (take-all _ _ p) at w
 
 -- what is written from the start of a buffer lies within it, in the form that a loan of that part asks
 pub counted : {d₀ text d : List ℕ} {r : ℕ} → Wrote d₀ 0 text d r → (r ≤ length d) × (r ≡ length (take r d))

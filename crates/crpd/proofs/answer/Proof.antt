@@ -1,7 +1,7 @@
 -- `crpd::answer` meets its contract: at each return the method, the reading and the position say which case holds.
 -- Assumes nothing.
 use mathlib.Core.Path.{_∙_}
-use Rattle.crpd.proofs.Steps.{accepted, answer-refused, answer-accepted}
+use Rattle.crpd.proofs.Steps.{outcome-accepted, answer-refused, answer-accepted}
 use borrow.Author.Tests.{lt-ltb}
 use Rattle.crpd.specs.Operations.{answerTo}
 use borrow.Author.Needs.{needs}
@@ -27,7 +27,7 @@ enum-told c = search needs
 
 reply-in-requires : tie.Need-reply-in-requires
 reply-in-requires c κs =
-    (search needs, accepted _ (c .before .before .before .read .result) (c .before .before .before .read .ensures) (c .before .enum-told .given .1))
+    (search needs, outcome-accepted _ (c .before .before .before .read .result) (c .before .before .before .read .ensures) (c .before .enum-told .given .1))
 
 returns-3 : tie.Need-returns-3
 returns-3 c =

@@ -1,6 +1,6 @@
 -- `crpd::report` meets its contract, by the reading's verdict.
 -- Assumes nothing.
-use Rattle.crpd.proofs.Steps.{accepted, report-refused, report-accepted}
+use Rattle.crpd.proofs.Steps.{outcome-accepted, report-refused, report-accepted}
 use borrow.Author.Needs.{needs}
 use Rattle.crpd.proofs.report.Statement.{statement}
 use Rattle.crpd.proofs.report.Tie as tie
@@ -20,7 +20,7 @@ enum-told c = search needs
 
 report-in-requires : tie.Need-report-in-requires
 report-in-requires c κs =
-    accepted _ (c .before .before .before .before .read .result) (c .before .before .before .before .read .ensures) (c .before .before .enum-told .given .1)
+    outcome-accepted _ (c .before .before .before .before .read .result) (c .before .before .before .before .read .ensures) (c .before .before .enum-told .given .1)
 
 same-length : tie.Need-same-length
 same-length c = search needs

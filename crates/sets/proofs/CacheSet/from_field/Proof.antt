@@ -19,8 +19,8 @@ returns-2 : tie.Need-returns-2
 returns-2 c = sym (wrong-length _ _ (search needs) (c .if2 .taken))
 
 -- what the field says, once its digits say o
-answer : (c : tie.After-words-of) (o : Option ℕ) → fourWordsSay (c .words-of .result) ≡ o → marksSaid o ≡ readSet (c .before .before .before .before .args .sets) (c .before .before .before .before .args .field .now)
-answer c o e = sym (right-length _ _ (search needs) (search needs) ∙ ap marksSaid (sym (c .words-of .ensures) ∙ e))
+answer : (c : tie.After-read-words) (o : Option ℕ) → fourWordsSay (c .read-words .result) ≡ o → marksSaid o ≡ readSet (c .before .before .before .before .args .sets) (c .before .before .before .before .args .field .now)
+answer c o e = sym (right-length _ _ (search needs) (search needs) ∙ ap marksSaid (sym (c .read-words .ensures) ∙ e))
 
 returns-3 : tie.Need-returns-3
 returns-3 c = answer (c .before .before) none (ap fourWordsSay (c .enum-told .given .1))
