@@ -11,7 +11,7 @@ use Rattle.units.specs.declared.Ticks.{Ticks}
 use Rattle.demand.specs.declared.Response.{Response}
 use Rattle.demand.specs.declared.Response.the-variants as response
 use Rattle.table.specs.declared.Table.{Table}
-use Rattle.table.specs.declared.Verdict.the-variants as verdict
+use Rattle.table.specs.declared.Ruling.the-variants as ruling
 use Rattle.table.specs.Reading.{refusal, readText}
 use Rattle.table.proofs.AcceptedLaws.{accepted-table}
 use Rattle.costs.specs.Harder.{Harder}
@@ -36,13 +36,13 @@ in-table table m i R e = go (leb (table .count) i) refl e
     go true t e = let z : _≡_ {A = ℕ} 0 1 = cc in absurd (omega arith)
     go false t e = record { held = leb-false (table .count) i t; is = reply-within (responseOf table m i) R e }
 
-module _ (text : List ℕ) (accepted : readText text .verdict ≡ verdict.Accepted) (m i : ℕ) (method : m ≤ 5) where
+module _ (text : List ℕ) (accepted : readText text .ruling ≡ ruling.Accepted) (m i : ℕ) (method : m ≤ 5) where
   in-text : answerTo text m i ≡ replyIn (readText text .table) m i
   unfolding answerTo
   in-text = rw (le-ltb _ _ method, accepted)
 
 -- of two accepted texts the second is harder, line by line: where it has a response, the first has one, and that is no larger
-module _ (first second : List ℕ) (p : readText first .verdict ≡ verdict.Accepted) (q : readText second .verdict ≡ verdict.Accepted)
+module _ (first second : List ℕ) (p : readText first .ruling ≡ ruling.Accepted) (q : readText second .ruling ≡ ruling.Accepted)
     (harder : Harder (readText first .table) (readText second .table)) (m i : ℕ) (method : m ≤ 5) where
   pub easier-answers : (R : Ticks) → answerTo second m i ≡ Within R → (r : Ticks) × (answerTo first m i ≡ Within r) × (r .0 ≤ R .0)
   easier-answers R e =

@@ -5,8 +5,8 @@ pub mod exported;
 use delivery::Written;
 use demand::Response;
 use table::Refusal;
+use table::Ruling;
 use table::Table;
-use table::Verdict;
 use units::Ticks;
 ghost use mathlib.Core.Path.{_≡_};
 ghost use Prim.Native.Nat.{_≤_};
@@ -57,8 +57,8 @@ pub fn answer(text: &[u8], method: u64, position: u64) -> Reply
         });
     }
     let outcome = table::read(text);
-    let verdict = outcome.verdict;
-    if let Verdict::Refused(refusal) = verdict {
+    let ruling = outcome.ruling;
+    if let Ruling::Refused(refusal) = ruling {
         return Reply::Refused(refusal);
     }
     let table = outcome.table;
@@ -77,8 +77,8 @@ pub fn report(text: &[u8], out: &mut [u8]) -> Written
     ensures { λ r. ⌜ TextReported (now (text .entry)) (now (out .entry)) r (now (out .exit)) ⌝ }
 {
     let outcome = table::read(text);
-    let verdict = outcome.verdict;
-    if let Verdict::Refused(refusal) = verdict {
+    let ruling = outcome.ruling;
+    if let Ruling::Refused(refusal) = ruling {
         return Written::Refused(refusal);
     }
     let table = outcome.table;

@@ -33,7 +33,7 @@ abbrev pub firstTicks : Table → ℕ
 firstTicks table = ticksOf (responseOf table 0 0)
 
 abbrev pub answered : List ℕ → ℕ → ℕ
-answered text times = unlessRefused (λ _. 0) (readText text .verdict) (turns times 0 (firstTicks (readText text .table)))
+answered text times = unlessRefused (λ _. 0) (readText text .ruling) (turns times 0 (firstTicks (readText text .table)))
 
 -- ---- the report: its length, 0 where it does not fit, and the buffer
 
@@ -50,8 +50,8 @@ pub record Rewritten (table : Table) (times : ℕ) (before : List ℕ) (len : �
   pub buffer-is : after ≡ turns times before (bufferOf (reportIn table) before)
 
 abbrev pub lengthAfter : List ℕ → ℕ → List ℕ → ℕ
-lengthAfter text times before = unlessRefused (λ _. 0) (readText text .verdict) (turns times 0 (lengthIn (readText text .table) before))
+lengthAfter text times before = unlessRefused (λ _. 0) (readText text .ruling) (turns times 0 (lengthIn (readText text .table) before))
 
 abbrev pub bufferAfter : List ℕ → ℕ → List ℕ → List ℕ
 bufferAfter text times before =
-    unlessRefused (λ _. before) (readText text .verdict) (turns times before (bufferOf (reportIn (readText text .table)) before))
+    unlessRefused (λ _. before) (readText text .ruling) (turns times before (bufferOf (reportIn (readText text .table)) before))

@@ -23,7 +23,7 @@ use Rattle.faults.proofs.Known.{unknown}
 use Rattle.table.specs.declared.Table.{Table}
 use Rattle.table.specs.declared.Refusal.{Refusal}
 use Rattle.table.specs.declared.Outcome.{Outcome}
-use Rattle.table.specs.declared.Verdict.the-variants.{Accepted, Refused}
+use Rattle.table.specs.declared.Ruling.the-variants.{Accepted, Refused}
 use Rattle.table.specs.Tasks.{at, namesOf, tasksOf, emptyTable, withTask}
 use Rattle.table.specs.Reading.{refused, accepted, unlessFault, headTable, readFrom, readLines, readText}
 use Rattle.table.specs.Accepted.{AcceptedTask, AcceptedTable}
@@ -156,18 +156,18 @@ pub settled : (text : List ℕ) → Settled (readText text)
 unfolding readText
 settled text = unless (textFault text) 0 _ (λ e. settled-lines (lines text))
 
-accepted-of : (o : Outcome) → Settled o → o .verdict ≡ Accepted → AcceptedTable (o .table)
+accepted-of : (o : Outcome) → Settled o → o .ruling ≡ Accepted → AcceptedTable (o .table)
 accepted-of _ (of-refused number line) e = let z : _≡_ {A = ℕ} 0 1 = cc in absurd (omega arith)
 accepted-of _ (of-accepted table a) e = a
 
-empty-of : (o : Outcome) (r : Refusal) → Settled o → o .verdict ≡ Refused r → o .table ≡ emptyTable
+empty-of : (o : Outcome) (r : Refusal) → Settled o → o .ruling ≡ Refused r → o .table ≡ emptyTable
 empty-of _ r (of-refused number line) e = refl
 empty-of _ r (of-accepted table a) e = let z : _≡_ {A = ℕ} 0 1 = cc in absurd (omega arith)
 
 -- a table that is accepted has all that may be used of it
-pub accepted-table : (text : List ℕ) → readText text .verdict ≡ Accepted → AcceptedTable (readText text .table)
+pub accepted-table : (text : List ℕ) → readText text .ruling ≡ Accepted → AcceptedTable (readText text .table)
 accepted-table text e = accepted-of (readText text) (settled text) e
 
 -- beside a refusal stands the empty table
-pub refused-empty : (text : List ℕ) (r : Refusal) → readText text .verdict ≡ Refused r → readText text .table ≡ emptyTable
+pub refused-empty : (text : List ℕ) (r : Refusal) → readText text .ruling ≡ Refused r → readText text .table ≡ emptyTable
 refused-empty text r e = empty-of (readText text) r (settled text) e

@@ -15,12 +15,12 @@ returns c = simp (lt-ltb _ _ (c .if1 .taken))
 read-requires : tie.Need-read-requires
 read-requires c κs = search needs
 
-enum-known-verdict : tie.Need-enum-known-verdict
-enum-known-verdict c = search needs
+enum-known-ruling : tie.Need-enum-known-ruling
+enum-known-ruling c = search needs
 
 returns-2 : tie.Need-returns-2
 returns-2 c =
-    answer-refused _ (c .before .before .before .read .result) (c .before .before .before .read .ensures) _ _ (search needs) _ (c .before .verdict .given .1)
+    answer-refused _ (c .before .before .before .read .result) (c .before .before .before .read .ensures) _ _ (search needs) _ (c .before .ruling .given .1)
 
 enum-told : tie.Need-enum-told
 enum-told c = search needs
@@ -40,7 +40,7 @@ answer-spec =
     (tie.spec
     returns
     read-requires
-    enum-known-verdict
+    enum-known-ruling
     returns-2
     enum-told
     reply-in-requires

@@ -1,4 +1,4 @@
--- `parts::bench_answers` meets its contract, by the reading's verdict.
+-- `parts::bench_answers` meets its contract, by the reading's ruling.
 -- Assumes nothing.
 use Rattle.crpd.proofs.Steps.{outcome-accepted}
 use borrow.Author.Needs.{needs}

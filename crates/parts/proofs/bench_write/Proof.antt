@@ -1,4 +1,4 @@
--- `parts::bench_write` meets its contract, by the reading's verdict.
+-- `parts::bench_write` meets its contract, by the reading's ruling.
 -- Assumes nothing.
 use mathlib.Core.Path.{refl}
 use Rattle.crpd.proofs.Steps.{outcome-accepted}
