@@ -1,8 +1,8 @@
 -- The figures are what the definitions say: antt computes them. Assumes nothing.
 use mathlib.Core.Path.{_≡_, refl}
 use mathlib.Core.List.{map}
-use Rattle.sets.specs.Sets.{∅, _∪_, _∩_, count, size}
-use Rattle.sets.specs.Words.{number, members}
+use Rattle.sets.specs.Sets.{∅, _∪_, _∩_, sizeBelow, size}
+use Rattle.sets.specs.Words.{numberOf, members}
 use Rattle.demand.specs.declared.Response.{Response}
 use Rattle.demand.specs.Positions.{run, fold}
 use Rattle.demand.specs.Demand.{demandOf}
@@ -21,5 +21,5 @@ pub figures-hold :
     (map found figures ≡ map (λ (f : Figure). f .answer) figures)
     × (demandOf (ownOf (at (P 0 8 0 0) 1)) (termAt (P 0 8 0 0) 0 1) 1 7 ≡ 7)
     × (demandOf (ownOf (at (P 0 8 0 0) 1)) (termAt (P 0 8 0 0) 0 1) 1 6 ≡ 7)
-unfolding responseOf answerOf leastOf firstOf demandOf reloadsOf at run fold ∅ _∪_ _∩_ count size number members
+unfolding responseOf answerOf leastOf firstOf demandOf reloadsOf at run fold ∅ _∪_ _∩_ sizeBelow size numberOf members
 figures-hold = (refl, refl, refl)

@@ -1,10 +1,10 @@
 -- The response of the task at a position under a method.
 use Prim.Native.Nat.{ℕ, _≤_, _<_}
 use mathlib.Core.Bool.{cond}
-use mathlib.Core.List.{List, [], _∷_, map}
+use mathlib.Core.List.{List, map}
 use lib.Dec.{eqb}
 use lib.ListN.{replicate}
-use Rattle.demand.specs.Positions.{front}
+use Rattle.demand.specs.Positions.{front, methods}
 use Rattle.demand.specs.declared.Response.{Response}
 use Rattle.demand.specs.declared.Response.the-variants.{Unschedulable}
 use Rattle.demand.specs.declared.Cell.{Cell}
@@ -33,13 +33,10 @@ withCombined A m = cond (eqb m 5) (sooner (A 3) (A 4)) (A m)
 unfoldable pub responseOf : Table → ℕ → ℕ → Response
 responseOf table m i = withCombined (λ m. answerOf table m i) m
 
--- the responses of the task at i under each method
-abbrev pub methods : List ℕ
-methods = 0 ∷ 1 ∷ 2 ∷ 3 ∷ 4 ∷ 5 ∷ []
-
 abbrev pub cell : Response → Cell
 cell r = record { response = r }
 
+-- the responses of the task at i under each method
 abbrev pub rowOf : Table → ℕ → Row
 rowOf table i = record { cells = map (λ m. cell (responseOf table m i)) methods }
 

@@ -11,38 +11,38 @@ use Rattle.units.specs.declared.Ticks.{Ticks}
 use Rattle.demand.specs.declared.Response.{Response}
 use Rattle.demand.specs.declared.Response.the-variants as response
 use Rattle.table.specs.declared.Table.{Table}
-use Rattle.table.specs.declared.Verdict.the-variants as verdict
-use Rattle.table.specs.Reading.{readText}
+use Rattle.table.specs.declared.Ruling.the-variants as ruling
+use Rattle.table.specs.Reading.{refusal, readText}
 use Rattle.table.proofs.AcceptedLaws.{accepted-table}
 use Rattle.costs.specs.Harder.{Harder}
 use Rattle.analysis.specs.Analysis.{responseOf}
 use Rattle.analysis.proofs.Orders.{harder-answers}
 use Rattle.crpd.specs.declared.Reply.the-variants.{Within, Unschedulable, Refused}
-use Rattle.crpd.specs.Operations.{refusal, answerOf, answerIn, answerTo}
+use Rattle.crpd.specs.Operations.{replyOf, replyIn, answerTo}
 
 -- a response that is answered is that of a task of the table
 pub record Answers (table : Table) (m i : ℕ) (R : Ticks) : Type 0 where
   pub held : i < table .count
   pub is : responseOf table m i ≡ response.Within R
 
-answer-within : (a : Response) (R : Ticks) → answerOf a ≡ Within R → a ≡ response.Within R
-answer-within (response.Within r) R e = let s : r ≡ R = cc in ap response.Within s
-answer-within response.Unschedulable R e = let z : _≡_ {A = ℕ} 0 1 = cc in absurd (omega arith)
+reply-within : (a : Response) (R : Ticks) → replyOf a ≡ Within R → a ≡ response.Within R
+reply-within (response.Within r) R e = let s : r ≡ R = cc in ap response.Within s
+reply-within response.Unschedulable R e = let z : _≡_ {A = ℕ} 0 1 = cc in absurd (omega arith)
 
-in-table : (table : Table) (m i : ℕ) (R : Ticks) → answerIn table m i ≡ Within R → Answers table m i R
+in-table : (table : Table) (m i : ℕ) (R : Ticks) → replyIn table m i ≡ Within R → Answers table m i R
 in-table table m i R e = go (leb (table .count) i) refl e
   where
-    go : (t : Bool) → leb (table .count) i ≡ t → cond t (Refused (refusal 13)) (answerOf (responseOf table m i)) ≡ Within R → Answers table m i R
+    go : (t : Bool) → leb (table .count) i ≡ t → cond t (Refused (refusal 13)) (replyOf (responseOf table m i)) ≡ Within R → Answers table m i R
     go true t e = let z : _≡_ {A = ℕ} 0 1 = cc in absurd (omega arith)
-    go false t e = record { held = leb-false (table .count) i t; is = answer-within (responseOf table m i) R e }
+    go false t e = record { held = leb-false (table .count) i t; is = reply-within (responseOf table m i) R e }
 
-module _ (text : List ℕ) (accepted : readText text .verdict ≡ verdict.Accepted) (m i : ℕ) (method : m ≤ 5) where
-  in-text : answerTo text m i ≡ answerIn (readText text .table) m i
+module _ (text : List ℕ) (accepted : readText text .ruling ≡ ruling.Accepted) (m i : ℕ) (method : m ≤ 5) where
+  in-text : answerTo text m i ≡ replyIn (readText text .table) m i
   unfolding answerTo
   in-text = rw (le-ltb _ _ method, accepted)
 
 -- of two accepted texts the second is harder, line by line: where it has a response, the first has one, and that is no larger
-module _ (first second : List ℕ) (p : readText first .verdict ≡ verdict.Accepted) (q : readText second .verdict ≡ verdict.Accepted)
+module _ (first second : List ℕ) (p : readText first .ruling ≡ ruling.Accepted) (q : readText second .ruling ≡ ruling.Accepted)
     (harder : Harder (readText first .table) (readText second .table)) (m i : ℕ) (method : m ≤ 5) where
   pub easier-answers : (R : Ticks) → answerTo second m i ≡ Within R → (r : Ticks) × (answerTo first m i ≡ Within r) × (r .0 ≤ R .0)
   easier-answers R e =

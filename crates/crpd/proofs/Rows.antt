@@ -1,74 +1,72 @@
 -- The rows of an accepted table's answers are what its report is made from.
 -- Assumes nothing.
-use Prim.Native.Nat.{ℕ, zero, suc, _≤_, _<_}
+use Prim.Native.Nat.{ℕ, _≤_, _<_}
 use native.Mathlib.Omega.{arith}
-use mathlib.Core.Path.{_≡_, refl, ap, _∙_}
+use mathlib.Core.Path.{_≡_, ap, _∙_}
 use mathlib.Core.Bool.{Bool, true, false, cond}
 use mathlib.Core.List.{List}
 use lib.Dec.{eqb}
 use lib.ListN.{getD}
 use Rattle.demand.specs.declared.Response.{Response}
 use Rattle.demand.specs.declared.Response.the-variants.{Within, Unschedulable}
+use Rattle.demand.specs.declared.Cell.{Cell}
 use Rattle.demand.specs.declared.Row.{Row}
 use Rattle.demand.specs.Least.{leastOf, LeastWithin, sooner}
 use Rattle.demand.proofs.LeastLaws.{leastOf-least}
+use Rattle.tasks.specs.Tasks.{limitOf}
 use Rattle.table.specs.declared.Table.{Table}
+use Rattle.table.specs.Tasks.{at}
 use Rattle.table.specs.Accepted.{AcceptedTable}
 use Rattle.demand.proofs.FrontLaws.{front-at}
-use Rattle.analysis.specs.Analysis.{limitOf, answerOf, responseOf, rowOf, rowsOf}
-use Rattle.verdicts.specs.Rows.{noRow, answerIn, answersIn}
-use Rattle.report.specs.Rows.{InRange, Reportable}
+use Rattle.analysis.specs.Analysis.{answerOf, responseOf, cell, rowOf, rowsOf}
+use Rattle.verdicts.specs.Rows.{blankCell, blankRow, answerUnder, answersIn}
+use Rattle.verdicts.proofs.Lists.{methods-at}
+use Rattle.report.specs.Rows.{AnswerInRange, Reportable}
 use Rattle.report.specs.Report.{reportOf}
 use Rattle.report.proofs.Agree.{report-agrees}
 use Rattle.crpd.specs.Operations.{reportIn}
 
 -- ---- no response is above the longest deadline
 
-least-in-range : (f : ℕ → ℕ) (limit : ℕ) → limit ≤ 250000000 → InRange (leastOf f limit)
+least-in-range : (f : ℕ → ℕ) (limit : ℕ) → limit ≤ 250000000 → AnswerInRange (leastOf f limit)
 unfolding LeastWithin
 least-in-range f limit h = go (leastOf f limit) (leastOf-least f limit)
   where
-    go : (a : Response) → LeastWithin f limit a → InRange a
+    go : (a : Response) → LeastWithin f limit a → AnswerInRange a
     go (Within R) p = omega (arith, p .0)
     go Unschedulable p = tt
 
-sooner-in-range : (a b : Response) → InRange a → InRange b → InRange (sooner a b)
+sooner-in-range : (a b : Response) → AnswerInRange a → AnswerInRange b → AnswerInRange (sooner a b)
 sooner-in-range (Within a) (Within b) p q = omega arith
 sooner-in-range (Within a) Unschedulable p q = p
 sooner-in-range Unschedulable b p q = q
 
 module _ (table : Table) (accepted : AcceptedTable table) where
-  answer-in-range : (m i : ℕ) → i < table .count → InRange (answerOf table m i)
+  answer-in-range : (m i : ℕ) → i < table .count → AnswerInRange (answerOf table m i)
   unfolding answerOf
   answer-in-range m i h =
       let t = accepted .tasks i h in
-      least-in-range _ (limitOf table i) (omega (arith, t .deadline, t .period))
+      least-in-range _ (limitOf (at table i)) (omega (arith, t .deadline, t .period))
 
-  response-in-range : (m i : ℕ) → i < table .count → InRange (responseOf table m i)
+  response-in-range : (m i : ℕ) → i < table .count → AnswerInRange (responseOf table m i)
   unfolding responseOf
   response-in-range m i h = go (eqb m 5)
     where
-      go : (t : Bool) → InRange (cond t (sooner (answerOf table 3 i) (answerOf table 4 i)) (answerOf table m i))
+      go : (t : Bool) → AnswerInRange (cond t (sooner (answerOf table 3 i) (answerOf table 4 i)) (answerOf table m i))
       go true = sooner-in-range (answerOf table 3 i) (answerOf table 4 i) (answer-in-range 3 i h) (answer-in-range 4 i h)
       go false = answer-in-range m i h
 
 -- ---- what the rows hold
 
-cell-at : (table : Table) (i m : ℕ) → m < 6 → answerIn (rowOf table i) m ≡ responseOf table m i
-cell-at table i zero h = refl
-cell-at table i (suc zero) h = refl
-cell-at table i (suc (suc zero)) h = refl
-cell-at table i (suc (suc (suc zero))) h = refl
-cell-at table i (suc (suc (suc (suc zero)))) h = refl
-cell-at table i (suc (suc (suc (suc (suc zero))))) h = refl
-cell-at table i (suc (suc (suc (suc (suc (suc m)))))) h = absurd (omega arith)
+cell-at : (table : Table) (i m : ℕ) → m < 6 → answerUnder (rowOf table i) m ≡ responseOf table m i
+cell-at table i m h = ap (λ (c : Cell). c .response) (methods-at (λ k. cell (responseOf table k i)) m blankCell h)
 
 module _ (table : Table) (rows : List Row) (e : rows ≡ rowsOf table) where
-  row-at : (i : ℕ) → i < table .count → getD rows i noRow ≡ rowOf table i
-  row-at i h = ap (λ (xs : List Row). getD xs i noRow) e ∙ front-at _ (rowOf table) (table .count) i noRow h
+  row-at : (i : ℕ) → i < table .count → getD rows i blankRow ≡ rowOf table i
+  row-at i h = ap (λ (xs : List Row). getD xs i blankRow) e ∙ front-at _ (rowOf table) (table .count) i blankRow h
 
   pub rows-hold : (m i : ℕ) → m < 6 → i < table .count → answersIn rows m i ≡ responseOf table m i
-  rows-hold m i h l = ap (λ (row : Row). answerIn row m) (row-at i l) ∙ cell-at table i m h
+  rows-hold m i h l = ap (λ (row : Row). answerUnder row m) (row-at i l) ∙ cell-at table i m h
 
   pub reportable : AcceptedTable table → Reportable table rows
   reportable accepted = record {

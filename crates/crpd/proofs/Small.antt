@@ -10,9 +10,9 @@ use lib.ListN.{length}
 use Rattle.demand.specs.declared.Response.{Response}
 use Rattle.demand.specs.declared.Response.the-variants as response
 use Rattle.table.specs.declared.Refusal.{Refusal}
-use Rattle.table.specs.declared.Verdict.{Verdict}
-use Rattle.table.specs.declared.Verdict.the-variants as verdict
-use Rattle.table.specs.Reading.{readText}
+use Rattle.table.specs.declared.Ruling.{Ruling}
+use Rattle.table.specs.declared.Ruling.the-variants as ruling
+use Rattle.table.specs.Reading.{refusal, readText}
 use Rattle.table.proofs.Told.{Told, read-told}
 use Rattle.analysis.specs.Analysis.{responseOf}
 use Rattle.delivery.specs.declared.Written.{Written}
@@ -20,7 +20,7 @@ use Rattle.delivery.specs.declared.Written.the-variants as written
 use Rattle.delivery.specs.Delivery.{writtenOf, Delivered}
 use Rattle.crpd.specs.declared.Reply.{Reply}
 use Rattle.crpd.specs.declared.Reply.the-variants.{Within, Unschedulable, Refused}
-use Rattle.crpd.specs.Operations.{refusal, answerOf, answerIn, unlessRefused, answerTo, reportIn, reportAnswer, TextReported}
+use Rattle.crpd.specs.Operations.{replyOf, replyIn, unlessRefused, answerTo, reportIn, reportAnswer, TextReported}
 use Rattle.crpd.specs.Codes.{SmallRefusal, SmallWritten}
 
 -- a number up to 14 that tells no line
@@ -35,25 +35,25 @@ SmallReply (Within R) = Unit {0}
 SmallReply Unschedulable = Unit {0}
 SmallReply (Refused r) = SmallRefusal r
 
-answer-of-small : (a : Response) → SmallReply (answerOf a)
-answer-of-small (response.Within R) = tt
-answer-of-small response.Unschedulable = tt
+reply-of-small : (a : Response) → SmallReply (replyOf a)
+reply-of-small (response.Within R) = tt
+reply-of-small response.Unschedulable = tt
 
 reply-small : (text : List ℕ) (m i : ℕ) → SmallReply (answerTo text m i)
 unfolding answerTo
 reply-small text m i = method (ltb 5 m)
   where
-    position : (t : Bool) → SmallReply (cond t (Refused (refusal 13)) (answerOf (responseOf (readText text .table) m i)))
+    position : (t : Bool) → SmallReply (cond t (Refused (refusal 13)) (replyOf (responseOf (readText text .table) m i)))
     position true = small 13 (omega arith)
-    position false = answer-of-small (responseOf (readText text .table) m i)
+    position false = reply-of-small (responseOf (readText text .table) m i)
 
-    read : (v : Verdict) → readText text .verdict ≡ v → SmallReply (unlessRefused v (answerIn (readText text .table) m i))
-    read verdict.Accepted e = position (leb (readText text .table .count) i)
-    read (verdict.Refused r) e = told-small r (read-told text r e)
+    read : (v : Ruling) → readText text .ruling ≡ v → SmallReply (unlessRefused Refused v (replyIn (readText text .table) m i))
+    read ruling.Accepted e = position (leb (readText text .table .count) i)
+    read (ruling.Refused r) e = told-small r (read-told text r e)
 
-    method : (t : Bool) → SmallReply (cond t (Refused (refusal 12)) (unlessRefused (readText text .verdict) (answerIn (readText text .table) m i)))
+    method : (t : Bool) → SmallReply (cond t (Refused (refusal 12)) (unlessRefused Refused (readText text .ruling) (replyIn (readText text .table) m i)))
     method true = small 12 (omega arith)
-    method false = read (readText text .verdict) refl
+    method false = read (readText text .ruling) refl
 
 pub answer-small : (text : List ℕ) (m i : ℕ) (r : Refusal) → answerTo text m i ≡ Refused r → SmallRefusal r
 answer-small text m i r e = rw e at (reply-small text m i)
@@ -65,12 +65,12 @@ written-small text out = go (leb (length text) (length out))
     go true = tt
     go false = small 14 (omega arith)
 
-report-small : (text out : List ℕ) → SmallWritten (reportAnswer (readText text .verdict) (reportIn (readText text .table)) out)
-report-small text out = go (readText text .verdict) refl
+report-small : (text out : List ℕ) → SmallWritten (reportAnswer (readText text .ruling) (reportIn (readText text .table)) out)
+report-small text out = go (readText text .ruling) refl
   where
-    go : (v : Verdict) → readText text .verdict ≡ v → SmallWritten (reportAnswer v (reportIn (readText text .table)) out)
-    go verdict.Accepted e = written-small (reportIn (readText text .table)) out
-    go (verdict.Refused r) e = told-small r (read-told text r e)
+    go : (v : Ruling) → readText text .ruling ≡ v → SmallWritten (reportAnswer v (reportIn (readText text .table)) out)
+    go ruling.Accepted e = written-small (reportIn (readText text .table)) out
+    go (ruling.Refused r) e = told-small r (read-told text r e)
 
 pub delivered-small : {text out : List ℕ} {w : Written} {after : List ℕ} → Delivered text out w after → SmallWritten w
 delivered-small {text} {out} d = rw (d .answer) (written-small text out)

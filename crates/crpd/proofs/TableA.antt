@@ -2,15 +2,16 @@
 -- two and c the other two, and its report.
 -- Assumes nothing.
 use mathlib.Core.Path.{_≡_, refl}
-use mathlib.Core.List.{List, [], _∷_}
+use mathlib.Core.List.{List, [], _∷_, flatMap}
+use mathlib.Core.Option.{bind}
 use Prim.Native.Nat.{ℕ}
-use Rattle.fields.specs.Bytes.{all, same}
-use Rattle.text.specs.Cut.{upTo, after, count, pastTabs, field, lines}
-use Rattle.fields.specs.Fields.{digitsFrom, readNumber, hasShape, isName}
+use Rattle.fields.specs.Bytes.{everyByte, sameBytes}
+use Rattle.text.specs.Cut.{upTo, after, occurrences, pastTabs, field, lines}
+use Rattle.fields.specs.Fields.{readDigits, readNumber, hasShape, isName}
 use Rattle.hex.specs.Hex.{hexDigit, readHex}
 use Rattle.sets.specs.Field.{readSet}
-use Rattle.sets.specs.Sets.{∅, _∪_, _∩_, count as counted, size}
-use Rattle.sets.specs.Words.{number, members, wordsOf}
+use Rattle.sets.specs.Sets.{∅, _∪_, _∩_, sizeBelow, size}
+use Rattle.sets.specs.Words.{numberOf, members, wordsOf}
 use Rattle.tasks.specs.Said.{headSaid, fieldsSaid, taskSaid}
 use Rattle.faults.specs.Faults.{firstFault, textFault, headInRange, headFault, taskInRange, taskInOrder, knows, taskFault, endFault}
 use Rattle.table.specs.Reading.{readFrom, readLines, readText}
@@ -20,9 +21,9 @@ use Rattle.demand.specs.Least.{firstOf, leastOf}
 use Rattle.demand.specs.Positions.{run, fold}
 use Rattle.costs.specs.Costs.{reloadsOf}
 use Rattle.analysis.specs.Analysis.{answerOf, responseOf}
-use Rattle.writer.specs.Text.{digits, spelled}
+use Rattle.writer.specs.Text.{digitsOf, spelled}
 use Rattle.verdicts.specs.Verdicts.{verdictLine}
-use Rattle.report.specs.Report.{taskLine, reportOf}
+use Rattle.report.specs.Report.{responseLine, reportOf}
 use Rattle.crpd.specs.Operations.{printed}
 
 -- K 4 1; T a 1 20 20 0 0 0 f; T b 2 40 40 0 0 3 f; T c 2 60 60 0 0 c f
@@ -39,5 +40,5 @@ pub printed-of-table-a : printed text ≡
     82 ∷ 9 ∷ 98 ∷ 9 ∷ 52 ∷ 48 ∷ 9 ∷ 51 ∷ 9 ∷ 55 ∷ 9 ∷ 53 ∷ 9 ∷ 53 ∷ 9 ∷ 53 ∷ 9 ∷ 53 ∷ 10 ∷
     82 ∷ 9 ∷ 99 ∷ 9 ∷ 54 ∷ 48 ∷ 9 ∷ 53 ∷ 9 ∷ 49 ∷ 51 ∷ 9 ∷ 57 ∷ 9 ∷ 49 ∷ 49 ∷ 9 ∷ 57 ∷ 9 ∷ 57 ∷ 10 ∷
     86 ∷ 9 ∷ 121 ∷ 101 ∷ 115 ∷ 9 ∷ 121 ∷ 101 ∷ 115 ∷ 9 ∷ 121 ∷ 101 ∷ 115 ∷ 9 ∷ 121 ∷ 101 ∷ 115 ∷ 9 ∷ 121 ∷ 101 ∷ 115 ∷ 9 ∷ 121 ∷ 101 ∷ 115 ∷ 10 ∷ []
-unfolding printed all same upTo after count pastTabs field lines digitsFrom readNumber hasShape isName hexDigit readHex readSet ∅ _∪_ _∩_ counted size number members wordsOf firstFault textFault headInRange headFault taskInRange taskInOrder knows taskFault endFault readFrom readLines readText headSaid fieldsSaid taskSaid at withTask demandOf firstOf leastOf run fold reloadsOf answerOf responseOf digits spelled taskLine verdictLine reportOf
+unfolding printed everyByte sameBytes upTo after occurrences pastTabs field lines readDigits readNumber hasShape isName hexDigit readHex bind readSet ∅ _∪_ _∩_ sizeBelow size numberOf members wordsOf firstFault textFault headInRange headFault taskInRange taskInOrder knows taskFault endFault readFrom readLines readText headSaid fieldsSaid taskSaid at withTask demandOf firstOf leastOf run fold reloadsOf answerOf responseOf digitsOf spelled flatMap responseLine verdictLine reportOf
 printed-of-table-a = refl

@@ -37,8 +37,8 @@ SmallWritten (written.Refused r) = SmallRefusal r
 
 -- the report's number, and the buffer
 pub record ReportCoded (text before : List ℕ) (code : ℕ) (after : List ℕ) : Type 0 where
-  pub answer-is : code ≡ writtenCode (reportAnswer (readText text .verdict) (reportIn (readText text .table)) before)
-  pub buffer-is : after ≡ reportBuffer (readText text .verdict) (reportIn (readText text .table)) before
+  pub answer-is : code ≡ writtenCode (reportAnswer (readText text .ruling) (reportIn (readText text .table)) before)
+  pub buffer-is : after ≡ reportBuffer (readText text .ruling) (reportIn (readText text .table)) before
 
 -- the number of a text that is delivered whole or refused, and the buffer
 pub record DeliveryCoded (text before : List ℕ) (code : ℕ) (after : List ℕ) : Type 0 where

@@ -5,8 +5,8 @@ pub mod exported;
 use delivery::Written;
 use demand::Response;
 use table::Refusal;
+use table::Ruling;
 use table::Table;
-use table::Verdict;
 use units::Ticks;
 ghost use mathlib.Core.Path.{_≡_};
 ghost use Prim.Native.Nat.{_≤_};
@@ -14,7 +14,7 @@ ghost use Rattle.table.specs.Accepted.{AcceptedTable};
 ghost use Rattle.writer.specs.Wrote.{Wrote};
 ghost use Rattle.analysis.specs.Analysis.{responseOf};
 ghost use Rattle.report.specs.Reported.{Reported};
-ghost use Rattle.crpd.specs.Operations.{answerOf, answerIn, answerTo, TextReported, printed};
+ghost use Rattle.crpd.specs.Operations.{replyOf, replyIn, answerTo, TextReported, printed};
 
 // What is answered of a task under a method.
 pub enum Reply {
@@ -23,8 +23,8 @@ pub enum Reply {
     Refused(Refusal),
 }
 
-fn answer_of(response: Response) -> Reply
-    ensures { λ r. ⌜ r ≡ answerOf response ⌝ }
+fn reply_of(response: Response) -> Reply
+    ensures { λ r. ⌜ r ≡ replyOf response ⌝ }
 {
     match response {
         Response::Within(time) => Reply::Within(time),
@@ -32,9 +32,9 @@ fn answer_of(response: Response) -> Reply
     }
 }
 
-fn answer_in(table: Table, method: u64, position: u64) -> Reply
+fn reply_in(table: Table, method: u64, position: u64) -> Reply
     requires { ⌜ (method ≤ 5) × AcceptedTable table ⌝ }
-    ensures { λ r. ⌜ r ≡ answerIn table method position ⌝ }
+    ensures { λ r. ⌜ r ≡ replyIn table method position ⌝ }
 {
     let count = table.count;
     if count as u64 <= position {
@@ -43,7 +43,7 @@ fn answer_in(table: Table, method: u64, position: u64) -> Reply
             line: 0,
         });
     }
-    answer_of(analysis::respond(table, method, position as usize))
+    reply_of(analysis::respond(table, method, position as usize))
 }
 
 // The answer for the task at a position under a method.
@@ -57,12 +57,12 @@ pub fn answer(text: &[u8], method: u64, position: u64) -> Reply
         });
     }
     let outcome = table::read(text);
-    let verdict = outcome.verdict;
-    if let Verdict::Refused(refusal) = verdict {
+    let ruling = outcome.ruling;
+    if let Ruling::Refused(refusal) = ruling {
         return Reply::Refused(refusal);
     }
     let table = outcome.table;
-    answer_in(table, method, position)
+    reply_in(table, method, position)
 }
 
 fn report_in(table: Table, out: &mut [u8]) -> Written
@@ -77,8 +77,8 @@ pub fn report(text: &[u8], out: &mut [u8]) -> Written
     ensures { λ r. ⌜ TextReported (now (text .entry)) (now (out .entry)) r (now (out .exit)) ⌝ }
 {
     let outcome = table::read(text);
-    let verdict = outcome.verdict;
-    if let Verdict::Refused(refusal) = verdict {
+    let ruling = outcome.ruling;
+    if let Ruling::Refused(refusal) = ruling {
         return Written::Refused(refusal);
     }
     let table = outcome.table;

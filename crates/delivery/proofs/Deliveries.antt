@@ -7,6 +7,7 @@ use borrow.Author.Tests.{le-leb, lt-leb}
 use lib.ListN.{length, drop, take-append-drop}
 use lib.Seq.{take-at, drop-at}
 use Rattle.writer.specs.Wrote.{Wrote}
+use Rattle.table.specs.Reading.{refusal}
 use Rattle.delivery.specs.declared.Written.{Written}
 use Rattle.delivery.specs.declared.Written.the-variants.{Length, Refused}
 use Rattle.delivery.specs.Delivery.{Delivered}
@@ -20,8 +21,8 @@ delivered {text} {out} {d} {r} fits w =
       buffer = rw (le-leb _ _ fits, ← end) (sym (take-append-drop r d) ∙ rw (w .front, w .rest));
     }
 
-pub refused : {text out : List ℕ} → length out < length text → Delivered text out (Refused (record { number = 14; line = 0 })) out
-refused long = record { answer = rw (lt-leb _ _ long); buffer = rw (lt-leb _ _ long) }
+pub not-delivered : {text out : List ℕ} → length out < length text → Delivered text out (Refused (refusal 14)) out
+not-delivered long = record { answer = rw (lt-leb _ _ long); buffer = rw (lt-leb _ _ long) }
 
 -- what is delivered, of a text that fits and of one that does not
 pub fitting : {text out d : List ℕ} {r : Written} → length text ≤ length out → Delivered text out r d → (r ≡ Length (length text)) × Wrote out 0 text d (length text)
@@ -35,5 +36,5 @@ fitting {text} {out} {d} fits w =
       },
     )
 
-pub too-long : {text out d : List ℕ} {r : Written} → length out < length text → Delivered text out r d → (r ≡ Refused (record { number = 14; line = 0 })) × (d ≡ out)
+pub too-long : {text out d : List ℕ} {r : Written} → length out < length text → Delivered text out r d → (r ≡ Refused (refusal 14)) × (d ≡ out)
 too-long long w = (rw (lt-leb _ _ long) at (w .answer), rw (lt-leb _ _ long) at (w .buffer))

@@ -5,13 +5,14 @@ use mathlib.Core.Bool.{cond}
 use mathlib.Core.List.{List, _++_}
 use lib.ListN.{length, drop}
 use lib.Dec.{leb}
+use Rattle.table.specs.Reading.{refusal}
 use Rattle.delivery.specs.declared.Written.{Written}
 use Rattle.delivery.specs.declared.Written.the-variants.{Length, Refused}
 
 -- the text's length, or refusal 14, telling line 0, where the text is longer than the buffer
 abbrev pub writtenOf : List ℕ → List ℕ → Written
 writtenOf text before =
-    cond (leb (length text) (length before)) (Length (length text)) (Refused (record { number = 14; line = 0 }))
+    cond (leb (length text) (length before)) (Length (length text)) (Refused (refusal 14))
 
 -- the text at the buffer's start, and after it the buffer as it was; where it is refused, all of the buffer as it was
 abbrev pub bufferOf : List ℕ → List ℕ → List ℕ

@@ -2,8 +2,8 @@
 use Prim.Native.Nat.{ℕ}
 use mathlib.Core.List.{List, [], _∷_}
 use Rattle.table.specs.declared.Refusal.{Refusal}
-use Rattle.writer.specs.Text.{spelled, line}
+use Rattle.writer.specs.Text.{spelled, lineOf}
 
 -- `E`, number, line
 unfoldable pub errorText : Refusal → List ℕ
-errorText e = line (69 ∷ []) (spelled (e .number) ∷ spelled (e .line) ∷ [])
+errorText e = lineOf (69 ∷ []) (spelled (e .number) ∷ spelled (e .line) ∷ [])

@@ -24,3 +24,7 @@ fold op z F (k ∷ ks) = fold op (op z (F k)) F ks
 -- a list of 32: what f has at the positions below i, and z
 unfoldable pub front : {A : Type 0} → A → (ℕ → A) → ℕ → List A
 front z f i = map f (hp i) ++ replicate (32 - i) z
+
+-- the six methods, for each of which something is listed
+abbrev pub methods : List ℕ
+methods = 0 ∷ 1 ∷ 2 ∷ 3 ∷ 4 ∷ 5 ∷ []

@@ -10,7 +10,7 @@ use native.Mathlib.Omega.{arith}
 use borrow.Author.Tests.{eq-eqb}
 use lib.ListN.{length, getD, take, drop, length-take, length-map, drop-of-length-le}
 use lib.Seq.{drop-cons, getD-take}
-use Rattle.fields.specs.Bytes.{same}
+use Rattle.fields.specs.Bytes.{sameBytes}
 use Rattle.tasks.specs.declared.Name.{Name}
 use Rattle.tasks.specs.declared.Task.{Task}
 use Rattle.tasks.specs.Tasks.{blank, nameIn}
@@ -22,12 +22,12 @@ module _ (n : Name) (names : List Name) (count i : ℕ) (d : Name) where
       let l : i < length (take count names) = simp length-take (omega arith) in
       rw (add-one, drop-cons (take count names) i d l, getD-take count names i d h)
 
-  pub knows-step : i < count → count ≤ length names → same (n .bytes) (getD names i d .bytes) ≡ false
+  pub knows-step : i < count → count ≤ length names → sameBytes (n .bytes) (getD names i d .bytes) ≡ false
       → knows n (drop (i + 1) (take count names)) ≡ knows n (drop i (take count names))
   unfolding knows
   knows-step h k e = rw (left-name h k, e)
 
-  pub knows-stop : i < count → count ≤ length names → same (n .bytes) (getD names i d .bytes) ≡ true
+  pub knows-stop : i < count → count ≤ length names → sameBytes (n .bytes) (getD names i d .bytes) ≡ true
       → true ≡ knows n (drop i (take count names))
   unfolding knows
   knows-stop h k e = rw (left-name h k, e)
@@ -41,10 +41,10 @@ knows-end n names count i h =
 pub length-mapped : {X Y : Type 0} (f : X → Y) (l : List X) (n : ℕ) → length (map f l) ≡ n → length l ≡ n
 length-mapped f l n e = sym (length-map l f) ∙ e
 
-same-self : (s : List ℕ) → same s s ≡ true
-unfolding same
-same-self [] = refl
-same-self (b ∷ s) = rw (eq-eqb b b refl) (same-self s)
+same-bytes-self : (s : List ℕ) → sameBytes s s ≡ true
+unfolding sameBytes
+same-bytes-self [] = refl
+same-bytes-self (b ∷ s) = rw (eq-eqb b b refl) (same-bytes-self s)
 
 neither : (a b : Bool) → (a || b) ≡ false → (a ≡ false) × (b ≡ false)
 neither true b e = absurd (false≢true (sym e))
@@ -55,7 +55,7 @@ pub unknown : (n : Name) (ts : List Task) (k : ℕ) → knows n (map nameIn ts) 
 unfolding knows
 unknown n [] k e h q = not-suc-le-zero h
 unknown n (t ∷ ts) zero e h q =
-    let p = neither (same (n .bytes) (t .name .bytes)) (knows n (map nameIn ts)) e .0 in
-    false≢true (sym p ∙ ap (λ (m : Name). same (n .bytes) (m .bytes)) q ∙ same-self (n .bytes))
+    let p = neither (sameBytes (n .bytes) (t .name .bytes)) (knows n (map nameIn ts)) e .0 in
+    false≢true (sym p ∙ ap (λ (m : Name). sameBytes (n .bytes) (m .bytes)) q ∙ same-bytes-self (n .bytes))
 unknown n (t ∷ ts) (suc k) e h q =
-    unknown n ts k (neither (same (n .bytes) (t .name .bytes)) (knows n (map nameIn ts)) e .1) (le-of-suc-le-suc h) q
+    unknown n ts k (neither (sameBytes (n .bytes) (t .name .bytes)) (knows n (map nameIn ts)) e .1) (le-of-suc-le-suc h) q

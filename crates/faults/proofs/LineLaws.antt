@@ -12,13 +12,13 @@ use Rattle.tasks.specs.declared.Task.{Task}
 use Rattle.tasks.specs.declared.HeadLine.{HeadLine}
 use Rattle.tasks.specs.declared.TaskLine.{TaskLine}
 use Rattle.faults.specs.declared.Finding.the-variants.{Fine}
-use Rattle.faults.specs.Faults.{textFault, within, headInRange, headFault, taskInRange, taskInOrder, knows, taskFault}
+use Rattle.faults.specs.Faults.{textFault, isWithin, headInRange, headFault, taskInRange, taskInOrder, knows, taskFault}
 use Rattle.faults.proofs.Chain.{fine-row}
 
 both : (a b : Bool) → (a && b) ≡ true → (a ≡ true) × (b ≡ true)
 both a b e = and-eq-true-iff a b .0 e
 
-lies : (low high n : ℕ) → within low high n ≡ true → (low ≤ n) × (n ≤ high)
+lies : (low high n : ℕ) → isWithin low high n ≡ true → (low ≤ n) × (n ≤ high)
 lies low high n e =
     let p = both (leb low n) (leb n high) e in
     (leb-true low n (p .0), leb-true n high (p .1))
@@ -44,9 +44,9 @@ pub head-holds : (said : HeadLine) → headFault said ≡ Fine → HeadHolds sai
 unfolding headFault headInRange
 head-holds said e1 =
     let e3 = fine-row _ _ _ (fine-row _ _ _ e1 .1) .1 in
-    let sets = within 4 256 (said .sets) in
+    let sets = isWithin 4 256 (said .sets) in
     let four = eqb (said .sets % 4) 0 in
-    let p = both (sets && four) (within 0 100000 (said .brt)) (not-false _ (fine-row _ _ _ e3 .0)) in
+    let p = both (sets && four) (isWithin 0 100000 (said .brt)) (not-false _ (fine-row _ _ _ e3 .0)) in
     let q = both sets four (p .0) in
     record { sets = lies 4 256 _ (q .0); by-four = eqb-true _ _ (q .1); brt = lies 0 100000 _ (p .1) .1 }
 
@@ -85,11 +85,11 @@ pub record Ranges (t : Task) : Type 0 where
 pub ranges : (t : Task) → taskInRange t ≡ true → Ranges t
 unfolding taskInRange
 ranges t e5 =
-    let c = within 1 250000000 (t .work .0) in
-    let p = within 1 250000000 (t .period .0) in
-    let d = within 1 250000000 (t .deadline .0) in
-    let j = within 0 250000000 (t .jitter .0) in
-    let e4 = both (c && p && d && j) (within 0 250000000 (t .blocking .0)) e5 in
+    let c = isWithin 1 250000000 (t .work .0) in
+    let p = isWithin 1 250000000 (t .period .0) in
+    let d = isWithin 1 250000000 (t .deadline .0) in
+    let j = isWithin 0 250000000 (t .jitter .0) in
+    let e4 = both (c && p && d && j) (isWithin 0 250000000 (t .blocking .0)) e5 in
     let e3 = both (c && p && d) j (e4 .0) in
     let e2 = both (c && p) d (e3 .0) in
     let e1 = both c p (e2 .0) in

@@ -9,13 +9,13 @@ use Rattle.tasks.specs.declared.Name.{Name}
 use Rattle.tasks.specs.declared.HeadLine.{HeadLine}
 use Rattle.tasks.specs.declared.TaskLine.{TaskLine}
 use Rattle.faults.specs.declared.Finding.the-variants.{Fault}
-use Rattle.faults.specs.Faults.{Rows, firstFault, textRows, textFault, headRows, headFault, taskRows, taskFault, endRows, endFault}
+use Rattle.faults.specs.Faults.{Conditions, firstFault, textRows, textFault, headRows, headFault, taskRows, taskFault, endRows, endFault}
 
-abbrev Small : Rows → Type 0
-Small [] = Unit {0}
-Small (r ∷ rows) = (r .1 ≤ 11) × Small rows
+abbrev AllSmall : Conditions → Type 0
+AllSmall [] = Unit {0}
+AllSmall (r ∷ rows) = (r .1 ≤ 11) × AllSmall rows
 
-first-small : (rows : Rows) → Small rows → (n : ℕ) → firstFault rows ≡ Fault n → n ≤ 11
+first-small : (rows : Conditions) → AllSmall rows → (n : ℕ) → firstFault rows ≡ Fault n → n ≤ 11
 unfolding firstFault
 first-small [] p n e = let z : _≡_ {A = ℕ} 0 1 = cc in absurd (omega arith)
 first-small (r ∷ rows) p n e = go (r .0) e (first-small rows (p .1) n)

@@ -6,7 +6,7 @@ use mathlib.Core.List.{List, [], _∷_}
 use mathlib.Core.Bool.{Bool, false, cond, not, _&&_, _||_}
 use lib.Dec.{ltb, leb, eqb}
 use lib.ListN.{length, getD}
-use Rattle.fields.specs.Bytes.{same}
+use Rattle.fields.specs.Bytes.{sameBytes}
 use Rattle.tasks.specs.declared.Name.{Name}
 use Rattle.tasks.specs.declared.Task.{Task}
 use Rattle.tasks.specs.declared.HeadLine.{HeadLine}
@@ -15,11 +15,11 @@ use Rattle.faults.specs.declared.Finding.{Finding}
 use Rattle.faults.specs.declared.Finding.the-variants.{Fine, Fault}
 
 -- conditions, each with the number of its refusal
-abbrev pub Rows : Type 0
-Rows = List (Bool × ℕ)
+abbrev pub Conditions : Type 0
+Conditions = List (Bool × ℕ)
 
 -- the first refusal whose condition is met
-unfoldable pub firstFault : Rows → Finding
+unfoldable pub firstFault : Conditions → Finding
 firstFault [] = Fine
 firstFault (r ∷ rows) = cond (r .0) (Fault (r .1)) (firstFault rows)
 
@@ -28,7 +28,7 @@ abbrev pub isEnded : List ℕ → Bool
 isEnded text = ltb 0 (length text) && eqb (getD text (length text - 1) 0) 10
 
 -- the whole text
-abbrev pub textRows : List ℕ → Rows
+abbrev pub textRows : List ℕ → Conditions
 textRows text =
     (ltb 16384 (length text), 1)
     ∷ (not (isEnded text), 2)
@@ -38,16 +38,16 @@ unfoldable pub textFault : List ℕ → Finding
 textFault text = firstFault (textRows text)
 
 -- the number lies from low to high
-abbrev pub within : ℕ → ℕ → ℕ → Bool
-within low high n = leb low n && leb n high
+abbrev pub isWithin : ℕ → ℕ → ℕ → Bool
+isWithin low high n = leb low n && leb n high
 
 -- the ranges of line 1, and that the sets come in fours
 unfoldable pub headInRange : HeadLine → Bool
 headInRange said =
-    within 4 256 (said .sets) && eqb (said .sets % 4) 0 && within 0 100000 (said .brt)
+    isWithin 4 256 (said .sets) && eqb (said .sets % 4) 0 && isWithin 0 100000 (said .brt)
 
 -- line 1
-abbrev pub headRows : HeadLine → Rows
+abbrev pub headRows : HeadLine → Conditions
 headRows said =
     (not (said .shaped), 3)
     ∷ (not (said .numbered), 5)
@@ -60,11 +60,11 @@ headFault said = firstFault (headRows said)
 -- the ranges of a task's times: J and B may be 0
 unfoldable pub taskInRange : Task → Bool
 taskInRange t =
-    within 1 250000000 (t .work .0)
-    && within 1 250000000 (t .period .0)
-    && within 1 250000000 (t .deadline .0)
-    && within 0 250000000 (t .jitter .0)
-    && within 0 250000000 (t .blocking .0)
+    isWithin 1 250000000 (t .work .0)
+    && isWithin 1 250000000 (t .period .0)
+    && isWithin 1 250000000 (t .deadline .0)
+    && isWithin 0 250000000 (t .jitter .0)
+    && isWithin 0 250000000 (t .blocking .0)
 
 -- J ≤ D ≤ T
 unfoldable pub taskInOrder : Task → Bool
@@ -73,10 +73,10 @@ taskInOrder t = leb (t .jitter .0) (t .deadline .0) && leb (t .deadline .0) (t .
 -- the name is one of these
 unfoldable pub knows : Name → List Name → Bool
 knows n [] = false
-knows n (m ∷ names) = same (n .bytes) (m .bytes) || knows n names
+knows n (m ∷ names) = sameBytes (n .bytes) (m .bytes) || knows n names
 
 -- a task line below `count` others, which have these names
-abbrev pub taskRows : ℕ → List Name → TaskLine → Rows
+abbrev pub taskRows : ℕ → List Name → TaskLine → Conditions
 taskRows count names said =
     (leb 32 count, 10)
     ∷ (not (said .shaped), 3)
@@ -92,7 +92,7 @@ unfoldable pub taskFault : ℕ → List Name → TaskLine → Finding
 taskFault count names said = firstFault (taskRows count names said)
 
 -- the end, after `count` task lines
-abbrev pub endRows : ℕ → Rows
+abbrev pub endRows : ℕ → Conditions
 endRows count = (eqb count 0, 11) ∷ []
 
 unfoldable pub endFault : ℕ → Finding

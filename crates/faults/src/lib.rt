@@ -7,8 +7,8 @@ use tasks::TaskLine;
 ghost use mathlib.Core.Path.{_≡_};
 ghost use Prim.Native.Nat.{_≤_};
 ghost use lib.ListN.{take};
-ghost use Rattle.fields.specs.Bytes.{same};
-ghost use Rattle.faults.specs.Faults.{isEnded, textFault, within, headInRange, headFault, taskInRange, taskInOrder, knows, taskFault};
+ghost use Rattle.fields.specs.Bytes.{sameBytes};
+ghost use Rattle.faults.specs.Faults.{isEnded, textFault, isWithin, headInRange, headFault, taskInRange, taskInOrder, knows, taskFault};
 
 // What the tests of a line, or of the whole text, find.
 pub enum Finding {
@@ -38,7 +38,7 @@ pub fn text_fault(input: &[u8]) -> Finding
 }
 
 fn is_within(low: u64, high: u64, n: u64) -> bool
-    ensures { λ r. ⌜ r ≡ within low high n ⌝ }
+    ensures { λ r. ⌜ r ≡ isWithin low high n ⌝ }
 {
     (low <= n) & (n <= high)
 }
@@ -82,7 +82,7 @@ fn task_in_order(t: Task) -> bool
 }
 
 fn same_name(a: Name, b: Name) -> bool
-    ensures { λ r. ⌜ r ≡ same (a .bytes) (b .bytes) ⌝ }
+    ensures { λ r. ⌜ r ≡ sameBytes (a .bytes) (b .bytes) ⌝ }
 {
     let x = a.bytes;
     let y = b.bytes;

@@ -14,13 +14,13 @@ abbrev pub isNameByte : ℕ → Bool
 isNameByte b = leb 97 b && leb b 122 || isDigit b || eqb b 45
 
 -- every byte of the list passes the test
-unfoldable pub all : (ℕ → Bool) → List ℕ → Bool
-all p [] = true
-all p (b ∷ s) = p b && all p s
+unfoldable pub everyByte : (ℕ → Bool) → List ℕ → Bool
+everyByte p [] = true
+everyByte p (b ∷ s) = p b && everyByte p s
 
 -- the two lists are the same bytes
-unfoldable pub same : List ℕ → List ℕ → Bool
-same [] [] = true
-same [] (c ∷ t) = false
-same (b ∷ s) [] = false
-same (b ∷ s) (c ∷ t) = eqb b c && same s t
+unfoldable pub sameBytes : List ℕ → List ℕ → Bool
+sameBytes [] [] = true
+sameBytes [] (c ∷ t) = false
+sameBytes (b ∷ s) [] = false
+sameBytes (b ∷ s) (c ∷ t) = eqb b c && sameBytes s t

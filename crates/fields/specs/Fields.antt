@@ -8,18 +8,18 @@ use lib.Dec.{leb, eqb}
 use Rattle.fields.specs.declared.NumberField.{NumberField}
 use Rattle.fields.specs.declared.NumberField.the-variants.{Value, Bad}
 use Rattle.text.specs.Cut.{field, fieldCount}
-use Rattle.fields.specs.Bytes.{all, isDigit, isNameByte}
+use Rattle.fields.specs.Bytes.{everyByte, isDigit, isNameByte}
 
 -- decimal digits, most significant first, after digits that say v
-unfoldable pub digitsFrom : ℕ → List ℕ → NumberField
-digitsFrom v [] = Value v
-digitsFrom v (b ∷ s) = cond (isDigit b) (digitsFrom (v * 10 + (b - 48)) s) Bad
+unfoldable pub readDigits : ℕ → List ℕ → NumberField
+readDigits v [] = Value v
+readDigits v (b ∷ s) = cond (isDigit b) (readDigits (v * 10 + (b - 48)) s) Bad
 
 -- up to nine digits, and no leading zero: only `0` itself starts with one
 unfoldable pub readNumber : List ℕ → NumberField
 readNumber s =
     cond (leb 1 (length s) && leb (length s) 9 && (eqb (length s) 1 || not (eqb (getD s 0 0) 48)))
-    (digitsFrom 0 s)
+    (readDigits 0 s)
     Bad
 
 -- whether a field is a number, and its value (0 where it is none)
@@ -47,4 +47,4 @@ hasShape letter fields line = isLetter letter (field 0 line) && eqb (fieldCount 
 
 -- up to twelve bytes, at least one, each a small letter, a digit or a dash
 unfoldable pub isName : List ℕ → Bool
-isName s = leb 1 (length s) && leb (length s) 12 && all isNameByte s
+isName s = leb 1 (length s) && leb (length s) 12 && everyByte isNameByte s

@@ -2,8 +2,8 @@
 ghost use mathlib.Core.Path.{_≡_};
 ghost use Prim.Native.Nat.{_≤_};
 ghost use lib.ListN.{length};
-ghost use Rattle.fields.specs.Bytes.{all, isDigit, isNameByte, same};
-ghost use Rattle.fields.specs.Fields.{digitsFrom, readNumber, isName, isValue, valueOf, isLetter};
+ghost use Rattle.fields.specs.Bytes.{everyByte, isDigit, isNameByte, sameBytes};
+ghost use Rattle.fields.specs.Fields.{readDigits, readNumber, isName, isValue, valueOf, isLetter};
 
 // What a field says that is to be a number.
 pub enum NumberField {
@@ -24,9 +24,9 @@ fn wide(x: u8) -> u64
 }
 
 // The number that up to nine digits say.
-fn digits(f: &[u8]) -> NumberField
+fn read_digits(f: &[u8]) -> NumberField
     requires { ⌜ length (now f) ≤ 9 ⌝ }
-    ensures { λ r. ⌜ r ≡ digitsFrom 0 (now (f .entry)) ⌝ }
+    ensures { λ r. ⌜ r ≡ readDigits 0 (now (f .entry)) ⌝ }
 {
     let mut v: u64 = 0;
     let mut i = 0;
@@ -42,7 +42,7 @@ fn digits(f: &[u8]) -> NumberField
 }
 
 // Up to nine digits with no leading zero; only `0` itself starts with one.
-pub fn number(f: &[u8]) -> NumberField
+pub fn read_number(f: &[u8]) -> NumberField
     ensures { λ r. ⌜ r ≡ readNumber (now (f .entry)) ⌝ }
 {
     let n = f.len();
@@ -53,7 +53,7 @@ pub fn number(f: &[u8]) -> NumberField
         return NumberField::Bad;
     }
     if (n == 1) | (f[0] != b'0') {
-        digits(f)
+        read_digits(f)
     } else {
         NumberField::Bad
     }
@@ -66,7 +66,7 @@ fn is_name_byte(b: u8) -> bool
 }
 
 fn all_name_bytes(f: &[u8]) -> bool
-    ensures { λ r. ⌜ r ≡ all isNameByte (now (f .entry)) ⌝ }
+    ensures { λ r. ⌜ r ≡ everyByte isNameByte (now (f .entry)) ⌝ }
 {
     let mut i = 0;
     while i < f.len() {
@@ -112,7 +112,7 @@ pub fn is_letter(f: &[u8], b: u8) -> bool
 }
 
 pub fn same_bytes(a: &[u8], b: &[u8]) -> bool
-    ensures { λ r. ⌜ r ≡ same (now (a .entry)) (now (b .entry)) ⌝ }
+    ensures { λ r. ⌜ r ≡ sameBytes (now (a .entry)) (now (b .entry)) ⌝ }
 {
     if a.len() != b.len() {
         return false;

@@ -2,7 +2,7 @@
 use Prim.Native.Nat.{ℕ, _+_, _-_, _*_, _^_}
 use mathlib.Core.Bool.{_&&_, cond}
 use mathlib.Core.List.{List, [], _∷_}
-use mathlib.Core.Option.{Option, some, none}
+use mathlib.Core.Option.{Option, some, none, bind}
 use lib.Dec.{leb}
 use Rattle.hex.specs.declared.Digit.{Digit}
 use Rattle.hex.specs.declared.Digit.the-variants as digit
@@ -15,14 +15,10 @@ use Rattle.hex.specs.declared.Words.the-variants as words
 unfoldable pub hexDigit : ℕ → Option ℕ
 hexDigit b = cond (leb 48 b && leb b 57) (some (b - 48)) (cond (leb 97 b && leb b 102) (some (b - 97 + 10)) none)
 
-abbrev pub andThen : Option ℕ → (ℕ → Option ℕ) → Option ℕ
-andThen (some d) k = k d
-andThen none k = none
-
 -- the number of the digits read so far, n, and the bytes to come: no number if one of these is no digit
 unfoldable pub readHex : ℕ → List ℕ → Option ℕ
 readHex n [] = some n
-readHex n (b ∷ bs) = andThen (hexDigit b) (λ d. readHex (n * 16 + d) bs)
+readHex n (b ∷ bs) = bind (hexDigit b) (λ d. readHex (n * 16 + d) bs)
 
 -- what the code makes of a byte
 abbrev pub digitSays : Digit → Option ℕ
@@ -35,6 +31,6 @@ wordSays (word.Is w) = some w
 wordSays word.None = none
 
 -- and of a field of four words
-abbrev pub wordsSay : Words → Option ℕ
-wordsSay (words.Are w3 w2 w1 w0) = some (((w3 * 2 ^ 64 + w2) * 2 ^ 64 + w1) * 2 ^ 64 + w0)
-wordsSay words.None = none
+abbrev pub fourWordsSay : Words → Option ℕ
+fourWordsSay (words.Are w3 w2 w1 w0) = some (((w3 * 2 ^ 64 + w2) * 2 ^ 64 + w1) * 2 ^ 64 + w0)
+fourWordsSay words.None = none

@@ -2,7 +2,7 @@
 ghost use mathlib.Core.Path.{_≡_};
 ghost use Prim.Native.Nat.{_-_, _≤_};
 ghost use lib.ListN.{length};
-ghost use Rattle.hex.specs.Hex.{hexDigit, digitSays, readHex, wordSays, wordsSay};
+ghost use Rattle.hex.specs.Hex.{hexDigit, digitSays, readHex, wordSays, fourWordsSay};
 
 // What a byte is as a hex digit.
 enum Digit {
@@ -10,7 +10,7 @@ enum Digit {
     None,
 }
 
-fn digit_of(b: u8) -> Digit
+fn read_digit(b: u8) -> Digit
     ensures { λ r. ⌜ digitSays r ≡ hexDigit b ⌝ }
 {
     match b {
@@ -26,14 +26,14 @@ enum Word {
     None,
 }
 
-fn word_of(part: &[u8]) -> Word
+fn read_word(part: &[u8]) -> Word
     requires { ⌜ length (now part) ≤ 16 ⌝ }
     ensures { λ r. ⌜ wordSays r ≡ readHex 0 (now (part .entry)) ⌝ }
 {
     let mut word: u64 = 0;
     let mut i = 0;
     while i < part.len() {
-        let Digit::Is(digit) = digit_of(part[i]) else {
+        let Digit::Is(digit) = read_digit(part[i]) else {
             return Word::None;
         };
         word = word << 4 | digit;
@@ -48,25 +48,25 @@ pub enum Words {
     None,
 }
 
-pub fn words_of(field: &[u8]) -> Words
+pub fn read_words(field: &[u8]) -> Words
     requires { ⌜ length (now field) ≤ 64 ⌝ }
-    ensures { λ r. ⌜ wordsSay r ≡ readHex 0 (now (field .entry)) ⌝ }
+    ensures { λ r. ⌜ fourWordsSay r ≡ readHex 0 (now (field .entry)) ⌝ }
 {
     // A word has sixteen digits, counted from the end. Where the digits run out, the words above have none and are 0.
     let end = field.len();
     let to_w3 = less(end, 48);
     let to_w2 = less(end, 32);
     let to_w1 = less(end, 16);
-    let Word::Is(w3) = word_of(&field[0..to_w3]) else {
+    let Word::Is(w3) = read_word(&field[0..to_w3]) else {
         return Words::None;
     };
-    let Word::Is(w2) = word_of(&field[to_w3..to_w2]) else {
+    let Word::Is(w2) = read_word(&field[to_w3..to_w2]) else {
         return Words::None;
     };
-    let Word::Is(w1) = word_of(&field[to_w2..to_w1]) else {
+    let Word::Is(w1) = read_word(&field[to_w2..to_w1]) else {
         return Words::None;
     };
-    let Word::Is(w0) = word_of(&field[to_w1..end]) else {
+    let Word::Is(w0) = read_word(&field[to_w1..end]) else {
         return Words::None;
     };
     Words::Are(w3, w2, w1, w0)

@@ -34,9 +34,9 @@ module _ (text before : List ℕ) where
   delivered-again zero = (refl, refl)
   delivered-again (suc n) = once (leb (length text) (length before)) refl
 
-pub one-more : {table : Table} {n : ℕ} {before out after : List ℕ} {len next : ℕ} {w : Written} → Rewritten table n before len out
+pub turn-more : {table : Table} {n : ℕ} {before out after : List ℕ} {len next : ℕ} {w : Written} → Rewritten table n before len out
     → Delivered (reportIn table) out w after → next ≡ lengthOf w → Rewritten table (n + 1) before next after
-one-more {table} {n} {before} r d is =
+turn-more {table} {n} {before} r d is =
     let again = delivered-again (reportIn table) before n in
     record {
       len-is = rw (add-one, is, d .answer, r .buffer-is) (ap lengthOf (again .0));

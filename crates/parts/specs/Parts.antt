@@ -6,29 +6,22 @@ use mathlib.Core.List.{List}
 use Rattle.demand.specs.declared.Response.{Response}
 use Rattle.demand.specs.declared.Response.the-variants.{Within, Unschedulable}
 use Rattle.table.specs.declared.Table.{Table}
-use Rattle.table.specs.declared.Verdict.{Verdict}
-use Rattle.table.specs.declared.Verdict.the-variants as verdict
 use Rattle.table.specs.Reading.{readText}
 use Rattle.analysis.specs.Analysis.{responseOf}
 use Rattle.delivery.specs.declared.Written.{Written}
 use Rattle.delivery.specs.declared.Written.the-variants as written
 use Rattle.delivery.specs.Delivery.{writtenOf, bufferOf}
-use Rattle.crpd.specs.Operations.{reportIn}
+use Rattle.crpd.specs.Operations.{unlessRefused, reportIn}
 
 -- what is there after so many turns, each of which leaves the same
 abbrev pub turns : {A : Type 0} → ℕ → A → A → A
 turns zero before after = before
 turns (suc n) before after = after
 
--- a refused text leaves what was there
-abbrev pub unlessRefused : {A : Type 0} → Verdict → A → A → A
-unlessRefused verdict.Accepted before after = after
-unlessRefused (verdict.Refused r) before after = before
-
 -- ---- the reading
 
-abbrev pub tasksIn : List ℕ → ℕ
-tasksIn text = readText text .table .count
+abbrev pub taskCount : List ℕ → ℕ
+taskCount text = readText text .table .count
 
 -- ---- the answers: that for the first task without reloads, in ticks, and 0 where it has none
 
@@ -40,7 +33,7 @@ abbrev pub firstTicks : Table → ℕ
 firstTicks table = ticksOf (responseOf table 0 0)
 
 abbrev pub answered : List ℕ → ℕ → ℕ
-answered text times = unlessRefused (readText text .verdict) 0 (turns times 0 (firstTicks (readText text .table)))
+answered text times = unlessRefused (λ _. 0) (readText text .ruling) (turns times 0 (firstTicks (readText text .table)))
 
 -- ---- the report: its length, 0 where it does not fit, and the buffer
 
@@ -57,8 +50,8 @@ pub record Rewritten (table : Table) (times : ℕ) (before : List ℕ) (len : �
   pub buffer-is : after ≡ turns times before (bufferOf (reportIn table) before)
 
 abbrev pub lengthAfter : List ℕ → ℕ → List ℕ → ℕ
-lengthAfter text times before = unlessRefused (readText text .verdict) 0 (turns times 0 (lengthIn (readText text .table) before))
+lengthAfter text times before = unlessRefused (λ _. 0) (readText text .ruling) (turns times 0 (lengthIn (readText text .table) before))
 
 abbrev pub bufferAfter : List ℕ → ℕ → List ℕ → List ℕ
 bufferAfter text times before =
-    unlessRefused (readText text .verdict) before (turns times before (bufferOf (reportIn (readText text .table)) before))
+    unlessRefused (λ _. before) (readText text .ruling) (turns times before (bufferOf (reportIn (readText text .table)) before))

@@ -1,11 +1,11 @@
 // The parts of the work, each as often as asked, for a benchmark to time apart. specs/Parts.antt says what each gives.
 use delivery::Written;
 use demand::Response;
+use table::Ruling;
 use table::Table;
-use table::Verdict;
 ghost use mathlib.Core.Path.{_≡_};
 ghost use Rattle.table.specs.Accepted.{AcceptedTable};
-ghost use Rattle.parts.specs.Parts.{turns, tasksIn, ticksOf, firstTicks, answered, lengthOf, Rewritten, lengthAfter, bufferAfter};
+ghost use Rattle.parts.specs.Parts.{turns, taskCount, ticksOf, firstTicks, answered, lengthOf, Rewritten, lengthAfter, bufferAfter};
 
 fn ticks(response: Response) -> u64
     ensures { λ r. ⌜ r ≡ ticksOf response ⌝ }
@@ -55,7 +55,7 @@ fn write(table: Table, times: u64, out: &mut [u8]) -> u64
 // The number of tasks of the table that a text says; 0 where it is refused.
 #[no_mangle]
 pub extern "C" fn bench_read(text: &[u8]) -> u64
-    ensures { λ r. ⌜ r ≡ tasksIn (now (text .entry)) ⌝ }
+    ensures { λ r. ⌜ r ≡ taskCount (now (text .entry)) ⌝ }
 {
     let outcome = table::read(text);
     let table = outcome.table;
@@ -68,8 +68,8 @@ pub extern "C" fn bench_answers(text: &[u8], times: u64) -> u64
     ensures { λ r. ⌜ r ≡ answered (now (text .entry)) times ⌝ }
 {
     let outcome = table::read(text);
-    let verdict = outcome.verdict;
-    if let Verdict::Refused(_) = verdict {
+    let ruling = outcome.ruling;
+    if let Ruling::Refused(_) = ruling {
         return 0;
     }
     let table = outcome.table;
@@ -82,8 +82,8 @@ pub extern "C" fn bench_write(text: &[u8], times: u64, out: &mut [u8]) -> u64
     ensures { λ r. ⌜ (r ≡ lengthAfter (now (text .entry)) times (now (out .entry))) × (now (out .exit) ≡ bufferAfter (now (text .entry)) times (now (out .entry))) ⌝ }
 {
     let outcome = table::read(text);
-    let verdict = outcome.verdict;
-    if let Verdict::Refused(_) = verdict {
+    let ruling = outcome.ruling;
+    if let Ruling::Refused(_) = ruling {
         return 0;
     }
     let table = outcome.table;

@@ -1,34 +1,20 @@
--- The line of a task, as the writes of their parts give them, and how long the parts are. Assumes nothing.
+-- The line of a task, as the writes of its parts give it, and how long the parts are. Assumes nothing.
 use mathlib.Core.Path.{_≡_}
-use mathlib.Core.Bool.{Bool, true, false, cond}
-use mathlib.Core.List.{List, [], _∷_, _++_, map, append-assoc}
-use Prim.Native.Nat.{ℕ, suc, _≤_}
+use mathlib.Core.List.{List, [], _∷_, _++_, flatMap, append-assoc}
+use Prim.Native.Nat.{ℕ, _≤_}
 use native.Mathlib.Omega.{arith}
-use lib.Dec.{eqb}
 use lib.ListN.{length}
 use Rattle.demand.specs.declared.Response.{Response}
 use Rattle.demand.specs.declared.Response.the-variants.{Within, Unschedulable}
+use Rattle.demand.specs.Positions.{methods}
 use Rattle.tasks.specs.declared.Task.{Task}
-use Rattle.tasks.specs.Tasks.{nameOf}
-use Rattle.text.specs.Cut.{upTo}
-use Rattle.writer.specs.Text.{spelled, field, flat}
+use Rattle.tasks.specs.Tasks.{nameText, limitOf}
+use Rattle.writer.specs.Text.{spelled, afterTab}
 use Rattle.writer.proofs.Spelling.{spelled-short}
-use Rattle.writer.proofs.Writes.{flat-map}
-use Rattle.verdicts.specs.Verdicts.{below}
-use Rattle.report.specs.Report.{answerText, limitOf, taskLine}
-use Rattle.report.specs.Rows.{InRange}
+use Rattle.report.specs.Report.{answerText, responseLine}
+use Rattle.report.specs.Rows.{AnswerInRange}
 
--- the part before a byte is no longer than the whole
-pub up-to-short : (b : ℕ) (s : List ℕ) → length (upTo b s) ≤ length s
-unfolding upTo
-up-to-short b [] = omega arith
-up-to-short b (c ∷ s) = go (eqb c b) (up-to-short b s)
-  where
-    go : (e : Bool) → length (upTo b s) ≤ length s → length (cond e [] (c ∷ upTo b s)) ≤ suc (length s)
-    go true h = omega arith
-    go false h = omega arith
-
-pub answer-short : (a : Response) → InRange a → length (answerText a) ≤ 9
+pub answer-short : (a : Response) → AnswerInRange a → length (answerText a) ≤ 9
 answer-short (Within t) h = spelled-short 8 (t .0) (omega arith)
 answer-short Unschedulable h = omega arith
 
@@ -36,7 +22,7 @@ regroup : (a b c d e : List ℕ) → a ++ b ++ c ++ d ++ e ≡ a ++ (b ++ (c ++ 
 regroup a b c d e = simp append-assoc
 
 -- a task's line: its letter, name, limit, answers and LF
-pub task-parts : (t : Task) (answers : ℕ → Response) → (82 ∷ []) ++ field (nameOf (t .name)) ++ field (spelled (limitOf t)) ++ flat (λ m. field (answerText (answers m))) (below 6) ++ (10 ∷ []) ≡ taskLine t answers
-unfolding taskLine
-task-parts t answers =
-    rw (← flat-map field (λ m. answerText (answers m)) (below 6)) (regroup (82 ∷ []) (field (nameOf (t .name))) (field (spelled (limitOf t))) (flat field (map (λ m. answerText (answers m)) (below 6))) (10 ∷ []))
+pub response-parts : (t : Task) (answers : ℕ → Response) → (82 ∷ []) ++ afterTab (nameText (t .name)) ++ afterTab (spelled (limitOf t)) ++ flatMap (λ m. afterTab (answerText (answers m))) methods ++ (10 ∷ []) ≡ responseLine t answers
+unfolding responseLine flatMap
+response-parts t answers =
+    regroup (82 ∷ []) (afterTab (nameText (t .name))) (afterTab (spelled (limitOf t))) (flatMap (λ m. afterTab (answerText (answers m))) methods) (10 ∷ [])

@@ -7,15 +7,15 @@ use Rattle.demand.specs.declared.Row.{Row}
 use Rattle.tasks.specs.declared.Task.{Task}
 use Rattle.table.specs.declared.Table.{Table}
 use Rattle.table.specs.Accepted.{AcceptedTable}
-use Rattle.verdicts.specs.Rows.{answerIn, answersIn}
+use Rattle.verdicts.specs.Rows.{answerUnder, answersIn}
 
 -- no response time is longer than the longest deadline
-abbrev pub InRange : Response → Type 0
-InRange (Within t) = t .0 ≤ 250000000
-InRange Unschedulable = Unit {0}
+abbrev pub AnswerInRange : Response → Type 0
+AnswerInRange (Within t) = t .0 ≤ 250000000
+AnswerInRange Unschedulable = Unit {0}
 
-abbrev pub InRangeRow : Row → Type 0
-InRangeRow row = (m : ℕ) → m < 6 → InRange (answerIn row m)
+abbrev pub RowInRange : Row → Type 0
+RowInRange row = (m : ℕ) → m < 6 → AnswerInRange (answerUnder row m)
 
 -- a task's limit is no longer than that, too
 abbrev pub Limited : Task → Type 0
@@ -24,4 +24,4 @@ Limited task = (task .jitter .0 ≤ task .deadline .0) × (task .deadline .0 ≤
 -- what a report is asked of: an accepted table, and rows with answers in range for each of its tasks
 pub record Reportable (table : Table) (rows : List Row) : Type 0 where
   pub accepted : AcceptedTable table
-  pub ranged : (m i : ℕ) → m < 6 → i < table .count → InRange (answersIn rows m i)
+  pub ranged : (m i : ℕ) → m < 6 → i < table .count → AnswerInRange (answersIn rows m i)

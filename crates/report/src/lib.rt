@@ -4,7 +4,7 @@ mod lines;
 use delivery::Written;
 use delivery::deliver;
 use demand::Row;
-use lines::put_task_lines;
+use lines::put_response_lines;
 use table::Table;
 use verdicts::put_verdict_line;
 ghost use Rattle.verdicts.specs.Rows.{answersIn};
@@ -17,7 +17,7 @@ pub fn report(table: Table, rows: [Row; 32], out: &mut [u8]) -> Written
     ensures { λ r. ⌜ Reported table (answersIn rows) (now (out .entry)) r (now (out .exit)) ⌝ }
 {
     let mut draft = [0u8; 2746];
-    let last = put_task_lines(&mut draft, table, rows);
+    let last = put_response_lines(&mut draft, table, rows);
     let end = put_verdict_line(&mut draft, last, rows, table.count);
     deliver(&draft[..end], out)
 }

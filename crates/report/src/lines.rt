@@ -7,20 +7,20 @@ use writer::put_byte;
 use writer::put_field;
 use writer::put_number_field;
 ghost use Prim.Native.Nat.{_+_, _≤_};
-ghost use mathlib.Core.List.{[], _∷_, _++_};
+ghost use mathlib.Core.List.{[], _∷_, _++_, flatMap};
 ghost use lib.ListN.{length};
-ghost use Rattle.tasks.specs.Tasks.{nameOf};
+ghost use Rattle.demand.specs.Positions.{between, methods};
+ghost use Rattle.tasks.specs.Tasks.{nameText, limitOf};
 ghost use Rattle.table.specs.Tasks.{at};
-ghost use Rattle.writer.specs.Text.{spelled, field, flat};
+ghost use Rattle.writer.specs.Text.{spelled, afterTab};
 ghost use Rattle.writer.specs.Wrote.{Wrote};
-ghost use Rattle.verdicts.specs.Verdicts.{below};
-ghost use Rattle.report.specs.Report.{answerText, limitOf, taskLine};
-ghost use Rattle.verdicts.specs.Rows.{answerIn, answersIn};
-ghost use Rattle.report.specs.Rows.{InRangeRow, Limited, Reportable};
+ghost use Rattle.report.specs.Report.{answerText, responseLine};
+ghost use Rattle.verdicts.specs.Rows.{answerUnder, answersIn};
+ghost use Rattle.report.specs.Rows.{RowInRange, Limited, Reportable};
 
 fn put_answer(out: &mut [u8], at: usize, answer: Response) -> usize
-    requires { ⌜ at + length (field (answerText answer)) ≤ length (now out) ⌝ }
-    ensures { λ r. ⌜ Wrote (now (out .entry)) at (field (answerText answer)) (now (out .exit)) r ⌝ }
+    requires { ⌜ at + length (afterTab (answerText answer)) ≤ length (now out) ⌝ }
+    ensures { λ r. ⌜ Wrote (now (out .entry)) at (afterTab (answerText answer)) (now (out .exit)) r ⌝ }
 {
     match answer {
         Response::Within(time) => put_number_field(out, at, time.0),
@@ -31,8 +31,8 @@ fn put_answer(out: &mut [u8], at: usize, answer: Response) -> usize
 // The six answers, each a field.
 fn put_answers(out: &mut [u8], at: usize, row: Row) -> usize
     requires { ⌜ at + 60 ≤ length (now out) ⌝ }
-    requires { ⌜ InRangeRow row ⌝ }
-    ensures { λ r. ⌜ Wrote (now (out .entry)) at (flat (λ m. field (answerText (answerIn row m))) (below 6)) (now (out .exit)) r × (r ≤ at + 60) ⌝ }
+    requires { ⌜ RowInRange row ⌝ }
+    ensures { λ r. ⌜ Wrote (now (out .entry)) at (flatMap (λ m. afterTab (answerText (answerUnder row m))) methods) (now (out .exit)) r × (r ≤ at + 60) ⌝ }
 {
     let mut next = at;
     for m in 0..6usize {
@@ -47,7 +47,7 @@ fn put_answers(out: &mut [u8], at: usize, row: Row) -> usize
 fn put_head(out: &mut [u8], at: usize, task: Task) -> usize
     requires { ⌜ at + 24 ≤ length (now out) ⌝ }
     requires { ⌜ Limited task ⌝ }
-    ensures { λ r. ⌜ Wrote (now (out .entry)) at ((82 ∷ []) ++ field (nameOf (task .name)) ++ field (spelled (limitOf task))) (now (out .exit)) r × (r ≤ at + 24) ⌝ }
+    ensures { λ r. ⌜ Wrote (now (out .entry)) at ((82 ∷ []) ++ afterTab (nameText (task .name)) ++ afterTab (spelled (limitOf task))) (now (out .exit)) r × (r ≤ at + 24) ⌝ }
 {
     let bytes = task.name.bytes;
     let start = put_byte(out, at, b'R');
@@ -56,11 +56,11 @@ fn put_head(out: &mut [u8], at: usize, task: Task) -> usize
 }
 
 // The line of one task, at most 85 bytes.
-fn put_task_line(out: &mut [u8], at: usize, task: Task, row: Row) -> usize
+fn put_response_line(out: &mut [u8], at: usize, task: Task, row: Row) -> usize
     requires { ⌜ at + 85 ≤ length (now out) ⌝ }
     requires { ⌜ Limited task ⌝ }
-    requires { ⌜ InRangeRow row ⌝ }
-    ensures { λ r. ⌜ Wrote (now (out .entry)) at (taskLine task (answerIn row)) (now (out .exit)) r × (r ≤ at + 85) ⌝ }
+    requires { ⌜ RowInRange row ⌝ }
+    ensures { λ r. ⌜ Wrote (now (out .entry)) at (responseLine task (answerUnder row)) (now (out .exit)) r × (r ≤ at + 85) ⌝ }
 {
     let start = put_head(out, at, task);
     let last = put_answers(out, start, row);
@@ -68,17 +68,17 @@ fn put_task_line(out: &mut [u8], at: usize, task: Task, row: Row) -> usize
 }
 
 // The lines of all tasks, from the start of out on.
-pub fn put_task_lines(out: &mut [u8], table: Table, rows: [Row; 32]) -> usize
+pub fn put_response_lines(out: &mut [u8], table: Table, rows: [Row; 32]) -> usize
     requires { ⌜ 2720 ≤ length (now out) ⌝ }
     requires { ⌜ Reportable table rows ⌝ }
-    ensures { λ r. ⌜ Wrote (now (out .entry)) 0 (flat (λ i. taskLine (at table i) (λ m. answersIn rows m i)) (below (table .count))) (now (out .exit)) r × (r ≤ 2720) ⌝ }
+    ensures { λ r. ⌜ Wrote (now (out .entry)) 0 (flatMap (λ i. responseLine (at table i) (λ m. answersIn rows m i)) (between 0 (table .count))) (now (out .exit)) r × (r ≤ 2720) ⌝ }
 {
     let n = table.count;
     let mut next = 0;
     for i in 0..n {
         let task = table.tasks[i];
         let row = rows[i];
-        next = put_task_line(out, next, task, row);
+        next = put_response_line(out, next, task, row);
     }
     next
 }

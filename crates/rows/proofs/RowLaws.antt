@@ -7,7 +7,7 @@ use mathlib.Core.List.{List, [], _∷_, map}
 use lib.ListN.{getD, set, drop, replicate, length-take, length-drop}
 use lib.Seq.{getD-take, getD-drop}
 use Rattle.sets.specs.Sets.{Set}
-use Rattle.demand.specs.Positions.{front}
+use Rattle.demand.specs.Positions.{front, methods}
 use Rattle.demand.specs.declared.Response.{Response}
 use Rattle.demand.specs.declared.Response.the-variants.{Unschedulable}
 use Rattle.demand.specs.declared.Cell.{Cell}
@@ -25,7 +25,7 @@ use Rattle.costs.specs.Costs.{reloadsOf, weightOn, termOn}
 use Rattle.costs.proofs.OrderLaws.{ucb-union-least, ecb-union-least}
 use Rattle.costs.proofs.BoardLaws.{on-ranged, terms-in, lent-handed}
 use Rattle.carried.specs.Carried.{Weighed}
-use Rattle.analysis.specs.Analysis.{answerOf, answerOn, withCombined, responseOf, methods, cell, rowOf, noRow, rowsOf}
+use Rattle.analysis.specs.Analysis.{answerOf, answerOn, withCombined, responseOf, cell, rowOf, noRow, rowsOf}
 use Rattle.analysis.proofs.AnswerLaws.{answer-is, answer-by-weights, plain-weight, works, works-are, works-handed}
 use Rattle.rows.specs.Rows.{rowOn, weightsAt, cheaper, plainOn, Left}
 

@@ -4,11 +4,12 @@ use mathlib.Core.Path.{_≡_}
 use mathlib.Core.List.{List, [], _∷_, map}
 use lib.ListN.{getD, length, take, drop}
 use Rattle.demand.specs.declared.Row.{Row}
+use Rattle.demand.specs.Positions.{methods}
 use Rattle.demand.specs.Demand.{Term, termOf}
 use Rattle.demand.specs.Terms.{periodIn, jitterIn}
 use Rattle.response.specs.Counts.{Started}
 use Rattle.board.specs.Board.{workOn, ownOn}
-use Rattle.analysis.specs.Analysis.{answerOn, withCombined, methods, cell}
+use Rattle.analysis.specs.Analysis.{answerOn, withCombined, cell}
 
 -- the row of answers for the task at i
 abbrev pub rowOn : List ℕ → ℕ → Row

@@ -14,9 +14,9 @@ use borrow.Author.Tests.{leb-true, le-leb, lt-leb, eq-eqb, ne-eqb, eqb-true}
 use Rattle.hex.specs.Hex.{readHex}
 use Rattle.hex.proofs.HexLaws.{read-lt, read-inj}
 use Rattle.sets.specs.declared.CacheSet.{CacheSet}
-use Rattle.sets.specs.declared.SetField.the-variants.{Set, Bad}
-use Rattle.sets.specs.Field.{ofNumber, readSet}
-use Rattle.sets.specs.Words.{bitsOf, number, wordsOf, members}
+use Rattle.sets.specs.declared.SetField.the-variants.{Marks, Bad}
+use Rattle.sets.specs.Field.{marksSaid, readSet}
+use Rattle.sets.specs.Words.{bitsOf, numberOf, wordsOf, members}
 use Rattle.sets.proofs.WordLaws.{number-words, members-words}
 use Rattle.sets.proofs.SetLaws.{and-left, and-right}
 
@@ -31,7 +31,7 @@ module _ (f : List ℕ) (sets : ℕ) where
   unfolding readSet
   wrong-length h n = simp (le-leb _ _ h, ne-eqb _ _ n)
 
-  pub right-length : sets ≤ 256 → length f ≡ sets / 4 → readSet sets f ≡ ofNumber (readHex 0 f)
+  pub right-length : sets ≤ 256 → length f ≡ sets / 4 → readSet sets f ≡ marksSaid (readHex 0 f)
   unfolding readSet
   right-length h e = simp (le-leb _ _ h, eq-eqb _ _ e)
 
@@ -45,15 +45,15 @@ pub record Says (sets : ℕ) (f : List ℕ) (c : CacheSet) : Type 0 where
   pub long : length f ≡ sets / 4
   pub most : sets ≤ 256
 
-said : (o : Option ℕ) (c : CacheSet) → ofNumber o ≡ Set c → (n : ℕ) × (o ≡ some n) × (wordsOf n ≡ c)
+said : (o : Option ℕ) (c : CacheSet) → marksSaid o ≡ Marks c → (n : ℕ) × (o ≡ some n) × (wordsOf n ≡ c)
 said (some n) c e = (n, refl, cc)
 said none c e = let z : _≡_ {A = ℕ} 0 1 = cc in absurd (omega arith)
 
-pub says : (sets : ℕ) (f : List ℕ) (c : CacheSet) → readSet sets f ≡ Set c → Says sets f c
+pub says : (sets : ℕ) (f : List ℕ) (c : CacheSet) → readSet sets f ≡ Marks c → Says sets f c
 unfolding readSet
 says sets f c e = go (leb sets 256 && eqb (length f) (sets / 4)) refl e
   where
-    go : (t : Bool) → (leb sets 256 && eqb (length f) (sets / 4)) ≡ t → cond t (ofNumber (readHex 0 f)) Bad ≡ Set c → Says sets f c
+    go : (t : Bool) → (leb sets 256 && eqb (length f) (sets / 4)) ≡ t → cond t (marksSaid (readHex 0 f)) Bad ≡ Marks c → Says sets f c
     go true t e =
         let r = said (readHex 0 f) c e in
         record {
@@ -73,7 +73,7 @@ no-bit n s h e =
     let z : _≡_ {A = ℕ} 0 1 = cc in
     omega arith
 
-pub read-below : (sets : ℕ) (f : List ℕ) (c : CacheSet) → sets % 4 ≡ 0 → readSet sets f ≡ Set c → (s : ℕ) → members c s ≡ true → s < sets
+pub read-below : (sets : ℕ) (f : List ℕ) (c : CacheSet) → sets % 4 ≡ 0 → readSet sets f ≡ Marks c → (s : ℕ) → members c s ≡ true → s < sets
 read-below sets f c by-four e s m = elim (decLt s sets) [ yes l ↦ l | no l ↦ absurd (above l) ]
   where
     r : Says sets f c
@@ -87,9 +87,9 @@ read-below sets f c by-four e s m = elim (decLt s sets) [ yes l ↦ l | no l ↦
 
 -- ---- one spelling: two fields of one length that say the same set are the same bytes
 
-pub one-spelling : (sets : ℕ) (f g : List ℕ) (c : CacheSet) → readSet sets f ≡ Set c → readSet sets g ≡ Set c → f ≡ g
+pub one-spelling : (sets : ℕ) (f g : List ℕ) (c : CacheSet) → readSet sets f ≡ Marks c → readSet sets g ≡ Marks c → f ≡ g
 one-spelling sets f g c p q =
     let u = says sets f c p in
     let v = says sets g c q in
-    let e : u .value ≡ v .value = sym (number-words (u .value)) ∙ ap number (u .is ∙ sym (v .is)) ∙ number-words (v .value) in
+    let e : u .value ≡ v .value = sym (number-words (u .value)) ∙ ap numberOf (u .is ∙ sym (v .is)) ∙ number-words (v .value) in
     read-inj f g 0 0 (u .value) (u .long ∙ sym (v .long)) (u .read) (v .read ∙ ap some (sym e)) .1

@@ -1,26 +1,12 @@
 -- Laws of sets of cache sets and of their sizes. Assumes nothing.
 use mathlib.Core.Path.{_≡_, refl, ap, ap₂, _∙_, fun-ext}
-use mathlib.Core.Bool.{Bool, true, false, _&&_, _||_}
+use mathlib.Core.Bool.{Bool, true, false, cond, _&&_, _||_, or-comm, or-assoc, or-self}
 use Prim.Native.Nat.{ℕ, zero, suc, _+_, _≤_, zero-le}
 use native.Mathlib.Nat.{le-refl, add-le-add}
 use native.Mathlib.Omega.{arith}
-use Rattle.sets.specs.Sets.{Set, ∅, _∪_, _∩_, _⊆_, one, count, size}
+use Rattle.sets.specs.Sets.{Set, ∅, _∪_, _∩_, _⊆_, sizeBelow, size}
 
 -- ---- union: the order, the grouping and repetitions do not matter
-
-or-comm : (a b : Bool) → (a || b) ≡ (b || a)
-or-comm true true = refl
-or-comm true false = refl
-or-comm false true = refl
-or-comm false false = refl
-
-or-assoc : (a b c : Bool) → (a || b || c) ≡ (a || (b || c))
-or-assoc true b c = refl
-or-assoc false b c = refl
-
-or-self : (a : Bool) → (a || a) ≡ a
-or-self true = refl
-or-self false = refl
 
 pub union-comm : (A B : Set) → (A ∪ B) ≡ (B ∪ A)
 unfolding _∪_
@@ -48,8 +34,8 @@ pub and-right : (a b : Bool) → (a && b) ≡ true → b ≡ true
 and-right true b h = h
 and-right false b h = cc
 
-and-true : (a b : Bool) → a ≡ true → b ≡ true → (a && b) ≡ true
-and-true a b p q = ap₂ _&&_ p q
+both-true : (a b : Bool) → a ≡ true → b ≡ true → (a && b) ≡ true
+both-true a b p q = ap₂ _&&_ p q
 
 pub inter-left : (A B : Set) → A ∩ B ⊆ A
 unfolding _∩_
@@ -61,7 +47,7 @@ inter-right A B s = and-right (A s) (B s)
 
 pub inter-mono : (A A′ B B′ : Set) → A ⊆ A′ → B ⊆ B′ → A ∩ B ⊆ A′ ∩ B′
 unfolding _∩_
-inter-mono A A′ B B′ p q s h = and-true (A′ s) (B′ s) (p s (inter-left A B s h)) (q s (inter-right A B s h))
+inter-mono A A′ B B′ p q s h = both-true (A′ s) (B′ s) (p s (inter-left A B s h)) (q s (inter-right A B s h))
 
 or-left : (a b : Bool) → a ≡ true → (a || b) ≡ true
 or-left a b p = ap (λ (x : Bool). x || b) p
@@ -88,47 +74,47 @@ empty-least A s h = cc
 
 -- ---- sizes: a law that holds at each cache set holds of the counts
 
-one-split : (u a b : Bool) → one (u && (a || b)) + one (u && a && b) ≡ one (u && a) + one (u && b)
-one-split true true true = refl
-one-split true true false = refl
-one-split true false true = refl
-one-split true false false = refl
-one-split false a b = refl
+mark-split : (u a b : Bool) → cond (u && (a || b)) 1 0 + cond (u && a && b) 1 0 ≡ cond (u && a) 1 0 + cond (u && b) 1 0
+mark-split true true true = refl
+mark-split true true false = refl
+mark-split true false true = refl
+mark-split true false false = refl
+mark-split false a b = refl
 
-one-le : (a : Bool) → one a ≤ 1
-one-le true = le-refl 1
-one-le false = zero-le
+mark-le : (a : Bool) → cond a 1 0 ≤ 1
+mark-le true = le-refl 1
+mark-le false = zero-le
 
-one-mono : (a b : Bool) → (a ≡ true → b ≡ true) → one a ≤ one b
-one-mono true b h = omega (arith, ap one (h refl))
-one-mono false b h = zero-le
+mark-mono : (a b : Bool) → (a ≡ true → b ≡ true) → cond a 1 0 ≤ cond b 1 0
+mark-mono true b h = rw (h refl) (le-refl 1)
+mark-mono false b h = zero-le
 
-count-split : (n : ℕ) (U A B : Set) → count n (U ∩ (A ∪ B)) + count n (U ∩ A ∩ B) ≡ count n (U ∩ A) + count n (U ∩ B)
-unfolding count _∪_ _∩_
-count-split zero U A B = refl
-count-split (suc n) U A B = omega (arith, count-split n U A B, one-split (U n) (A n) (B n))
+size-below-split : (n : ℕ) (U A B : Set) → sizeBelow n (U ∩ (A ∪ B)) + sizeBelow n (U ∩ A ∩ B) ≡ sizeBelow n (U ∩ A) + sizeBelow n (U ∩ B)
+unfolding sizeBelow _∪_ _∩_
+size-below-split zero U A B = refl
+size-below-split (suc n) U A B = omega (arith, size-below-split n U A B, mark-split (U n) (A n) (B n))
 
-count-mono : (n : ℕ) (A B : Set) → A ⊆ B → count n A ≤ count n B
-unfolding count
-count-mono zero A B h = zero-le
-count-mono (suc n) A B h = add-le-add (count-mono n A B h) (one-mono (A n) (B n) (h n))
+size-below-mono : (n : ℕ) (A B : Set) → A ⊆ B → sizeBelow n A ≤ sizeBelow n B
+unfolding sizeBelow
+size-below-mono zero A B h = zero-le
+size-below-mono (suc n) A B h = add-le-add (size-below-mono n A B h) (mark-mono (A n) (B n) (h n))
 
-count-le : (n : ℕ) (A : Set) → count n A ≤ n
-unfolding count
-count-le zero A = zero-le
-count-le (suc n) A = omega (arith, count-le n A, one-le (A n))
+size-below-le : (n : ℕ) (A : Set) → sizeBelow n A ≤ n
+unfolding sizeBelow
+size-below-le zero A = zero-le
+size-below-le (suc n) A = omega (arith, size-below-le n A, mark-le (A n))
 
 pub size-split : (U A B : Set) → size (U ∩ (A ∪ B)) + size (U ∩ A ∩ B) ≡ size (U ∩ A) + size (U ∩ B)
 unfolding size
-size-split = count-split 256
+size-split = size-below-split 256
 
 pub size-mono : (A B : Set) → A ⊆ B → size A ≤ size B
 unfolding size
-size-mono = count-mono 256
+size-mono = size-below-mono 256
 
 pub size-le : (A : Set) → size A ≤ 256
 unfolding size
-size-le = count-le 256
+size-le = size-below-le 256
 
 pub size-inter-left : (A B : Set) → size (A ∩ B) ≤ size A
 size-inter-left A B = size-mono (A ∩ B) A (inter-left A B)

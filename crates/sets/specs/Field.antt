@@ -8,15 +8,15 @@ use lib.ListN.{length}
 use lib.Dec.{eqb, leb}
 use Rattle.hex.specs.Hex.{readHex}
 use Rattle.sets.specs.declared.SetField.{SetField}
-use Rattle.sets.specs.declared.SetField.the-variants as field
+use Rattle.sets.specs.declared.SetField.the-variants.{Marks, Bad}
 use Rattle.sets.specs.Words.{wordsOf}
 
 -- what a field says: the set of its number, or nothing
-abbrev pub ofNumber : Option ℕ → SetField
-ofNumber (some n) = field.Set (wordsOf n)
-ofNumber none = field.Bad
+abbrev pub marksSaid : Option ℕ → SetField
+marksSaid (some n) = Marks (wordsOf n)
+marksSaid none = Bad
 
 -- a field of a table with so many cache sets
 unfoldable pub readSet : ℕ → List ℕ → SetField
 unfolding readHex
-readSet sets f = cond (leb sets 256 && eqb (length f) (sets / 4)) (ofNumber (readHex 0 f)) field.Bad
+readSet sets f = cond (leb sets 256 && eqb (length f) (sets / 4)) (marksSaid (readHex 0 f)) Bad

@@ -8,11 +8,11 @@ use Rattle.sets.specs.Sets.{Set}
 abbrev pub bitsOf : ℕ → Set
 bitsOf n = λ s. eqb (n / 2 ^ s % 2) 1
 
-unfoldable pub number : CacheSet → ℕ
-number c = ((c .w3 * 2 ^ 64 + c .w2) * 2 ^ 64 + c .w1) * 2 ^ 64 + c .w0
+unfoldable pub numberOf : CacheSet → ℕ
+numberOf c = ((c .w3 * 2 ^ 64 + c .w2) * 2 ^ 64 + c .w1) * 2 ^ 64 + c .w0
 
 unfoldable pub members : CacheSet → Set
-members c = bitsOf (number c)
+members c = bitsOf (numberOf c)
 
 -- the words of a number of 256 bits
 unfoldable pub wordsOf : ℕ → CacheSet

@@ -22,7 +22,7 @@ pub struct CacheSet {
 
 // What reading a text field answers.
 pub enum SetField {
-    Set(CacheSet),
+    Marks(CacheSet),
     Bad,
 }
 
@@ -120,10 +120,10 @@ impl CacheSet {
         if field.len() as u64 != sets / 4 {
             return SetField::Bad;
         }
-        let Words::Are(w3, w2, w1, w0) = hex::words_of(field) else {
+        let Words::Are(w3, w2, w1, w0) = hex::read_words(field) else {
             return SetField::Bad;
         };
-        SetField::Set(CacheSet { w0, w1, w2, w3 })
+        SetField::Marks(CacheSet { w0, w1, w2, w3 })
     }
 }
 

@@ -12,7 +12,7 @@ use lib.ListN.{length, set, length-set, length-replicate}
 use lib.Seq.{getD-take, getD-set-same, getD-set-other, length-take-le}
 use Rattle.text.specs.Cut.{lines}
 use Rattle.tasks.specs.declared.Task.{Task}
-use Rattle.tasks.specs.Tasks.{nameOf, packName, blank, emptyTask}
+use Rattle.tasks.specs.Tasks.{nameText, packName, blank, emptyTask}
 use Rattle.tasks.specs.Said.{headSaid, taskSaid}
 use Rattle.faults.specs.declared.Finding.{Finding}
 use Rattle.faults.specs.declared.Finding.the-variants.{Fine, Fault}
@@ -23,7 +23,7 @@ use Rattle.faults.proofs.Known.{unknown}
 use Rattle.table.specs.declared.Table.{Table}
 use Rattle.table.specs.declared.Refusal.{Refusal}
 use Rattle.table.specs.declared.Outcome.{Outcome}
-use Rattle.table.specs.declared.Verdict.the-variants.{Accepted, Refused}
+use Rattle.table.specs.declared.Ruling.the-variants.{Accepted, Refused}
 use Rattle.table.specs.Tasks.{at, namesOf, tasksOf, emptyTable, withTask}
 use Rattle.table.specs.Reading.{refused, accepted, unlessFault, headTable, readFrom, readLines, readText}
 use Rattle.table.specs.Accepted.{AcceptedTask, AcceptedTable}
@@ -52,8 +52,8 @@ record Partly (table : Table) : Type 0 where
   brt : table .brt .0 ≤ 100000
   few : table .count ≤ 32
   tasks : (k : ℕ) → k < table .count → AcceptedTask (table .sets) (at table k)
-  filled : (k : ℕ) → k < table .count → at table k .name ≡ packName (nameOf (at table k .name))
-  distinct : (j k : ℕ) → j < k → k < table .count → nameOf (at table j .name) ≡ nameOf (at table k .name) → ⊥
+  filled : (k : ℕ) → k < table .count → at table k .name ≡ packName (nameText (at table k .name))
+  distinct : (j k : ℕ) → j < k → k < table .count → nameText (at table j .name) ≡ nameText (at table k .name) → ⊥
 
 -- it holds with a task more that was not refused
 module _ (table : Table) (l : List ℕ) (p : Partly table) (h : TaskHolds (table .count) (namesOf table) (taskSaid (table .sets) l)) where
@@ -74,20 +74,20 @@ module _ (table : Table) (l : List ℕ) (p : Partly table) (h : TaskHolds (table
       last e = rw (e, at-last table t fits) new
 
   -- the new name is another than that of a task before it
-  another : (j : ℕ) → j < table .count → nameOf (at table j .name) ≡ nameOf (t .name) → ⊥
+  another : (j : ℕ) → j < table .count → nameText (at table j .name) ≡ nameText (t .name) → ⊥
   unfolding at
   another j b e = unknown (t .name) (tasksOf table) j (h .new-name) (omega (arith, length-take-le (table .count) (table .tasks) (omega (arith, fits)))) same-name
     where
       same-name : at table j .name ≡ t .name
       same-name = p .filled j b ∙ ap packName e ∙ sym (name-filled _ _ _ _ (p .by-four) h)
 
-  apart : (j k : ℕ) → j < k → k < table .count + 1 → nameOf (at (withTask table t) j .name) ≡ nameOf (at (withTask table t) k .name) → ⊥
+  apart : (j k : ℕ) → j < k → k < table .count + 1 → nameText (at (withTask table t) j .name) ≡ nameText (at (withTask table t) k .name) → ⊥
   apart j k b c = elim (decLt k (table .count)) [
     | yes l ↦ rw (at-kept table t j (omega arith), at-kept table t k l) (p .distinct j k b l)
     | no l ↦ last (omega arith)
   ]
     where
-      last : k ≡ table .count → nameOf (at (withTask table t) j .name) ≡ nameOf (at (withTask table t) k .name) → ⊥
+      last : k ≡ table .count → nameText (at (withTask table t) j .name) ≡ nameText (at (withTask table t) k .name) → ⊥
       last e = rw (e, at-last table t fits, at-kept table t j (omega arith)) (another j (omega arith))
 
   partly-more : Partly (withTask table t)
@@ -99,7 +99,7 @@ module _ (table : Table) (l : List ℕ) (p : Partly table) (h : TaskHolds (table
     brt = p .brt;
     few = omega (arith, h .room);
     tasks = each (AcceptedTask (table .sets)) (p .tasks) (task-accepted _ _ _ _ (p .by-four) h);
-    filled = each (λ (u : Task). u .name ≡ packName (nameOf (u .name))) (p .filled) (name-filled _ _ _ _ (p .by-four) h);
+    filled = each (λ (u : Task). u .name ≡ packName (nameText (u .name))) (p .filled) (name-filled _ _ _ _ (p .by-four) h);
     distinct = apart;
   }
 
@@ -118,8 +118,8 @@ partly-head l h = record {
 
 -- the two ways in which a reading ends
 pub data Settled : Outcome → Type 0 where
-  refusal : (number line : ℕ) → Settled (refused number line)
-  acceptance : (table : Table) → AcceptedTable table → Settled (accepted table)
+  of-refused : (number line : ℕ) → Settled (refused number line)
+  of-accepted : (table : Table) → AcceptedTable table → Settled (accepted table)
 
 -- a table whose reading ends without a fault has a task
 whole : (table : Table) → Partly table → endFault (table .count) ≡ Fine → AcceptedTable table
@@ -139,35 +139,35 @@ whole table p e =
 -- what follows is settled, if it is where there is no fault
 unless : (f : Finding) (line : ℕ) (next : Outcome) → (f ≡ Fine → Settled next) → Settled (unlessFault f line next)
 unless Fine line next h = h refl
-unless (Fault number) line next h = refusal number line
+unless (Fault number) line next h = of-refused number line
 
 settled-from : (line : ℕ) (table : Table) (ls : List (List ℕ)) → Partly table → Settled (readFrom line table ls)
 unfolding readFrom
-settled-from line table [] p = unless _ 1 _ (λ e. acceptance table (whole table p e))
+settled-from line table [] p = unless _ 1 _ (λ e. of-accepted table (whole table p e))
 settled-from line table (l ∷ ls) p =
     unless _ line _ (λ e. settled-from (line + 1) _ ls (partly-more table l p (task-holds _ _ _ e)))
 
 settled-lines : (ls : List (List ℕ)) → Settled (readLines ls)
 unfolding readLines
-settled-lines [] = refusal 2 0
+settled-lines [] = of-refused 2 0
 settled-lines (l ∷ ls) = unless _ 1 _ (λ e. settled-from 2 _ ls (partly-head l (head-holds _ e)))
 
 pub settled : (text : List ℕ) → Settled (readText text)
 unfolding readText
 settled text = unless (textFault text) 0 _ (λ e. settled-lines (lines text))
 
-accepted-of : (o : Outcome) → Settled o → o .verdict ≡ Accepted → AcceptedTable (o .table)
-accepted-of _ (refusal number line) e = let z : _≡_ {A = ℕ} 0 1 = cc in absurd (omega arith)
-accepted-of _ (acceptance table a) e = a
+accepted-of : (o : Outcome) → Settled o → o .ruling ≡ Accepted → AcceptedTable (o .table)
+accepted-of _ (of-refused number line) e = let z : _≡_ {A = ℕ} 0 1 = cc in absurd (omega arith)
+accepted-of _ (of-accepted table a) e = a
 
-empty-of : (o : Outcome) (r : Refusal) → Settled o → o .verdict ≡ Refused r → o .table ≡ emptyTable
-empty-of _ r (refusal number line) e = refl
-empty-of _ r (acceptance table a) e = let z : _≡_ {A = ℕ} 0 1 = cc in absurd (omega arith)
+empty-of : (o : Outcome) (r : Refusal) → Settled o → o .ruling ≡ Refused r → o .table ≡ emptyTable
+empty-of _ r (of-refused number line) e = refl
+empty-of _ r (of-accepted table a) e = let z : _≡_ {A = ℕ} 0 1 = cc in absurd (omega arith)
 
 -- a table that is accepted has all that may be used of it
-pub accepted-table : (text : List ℕ) → readText text .verdict ≡ Accepted → AcceptedTable (readText text .table)
+pub accepted-table : (text : List ℕ) → readText text .ruling ≡ Accepted → AcceptedTable (readText text .table)
 accepted-table text e = accepted-of (readText text) (settled text) e
 
 -- beside a refusal stands the empty table
-pub refused-empty : (text : List ℕ) (r : Refusal) → readText text .verdict ≡ Refused r → readText text .table ≡ emptyTable
+pub refused-empty : (text : List ℕ) (r : Refusal) → readText text .ruling ≡ Refused r → readText text .table ≡ emptyTable
 refused-empty text r e = empty-of (readText text) r (settled text) e

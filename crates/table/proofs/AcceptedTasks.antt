@@ -7,19 +7,19 @@ use mathlib.Core.List.{List}
 use Rattle.text.specs.Cut.{field}
 use Rattle.fields.specs.Fields.{isName}
 use Rattle.sets.specs.declared.SetField.{SetField}
-use Rattle.sets.specs.declared.SetField.the-variants.{Set, Bad}
+use Rattle.sets.specs.declared.SetField.the-variants.{Marks, Bad}
 use Rattle.sets.specs.Words.{members}
 use Rattle.sets.specs.Field.{readSet}
 use Rattle.sets.proofs.FieldLaws.{read-below}
 use Rattle.tasks.specs.declared.Name.{Name}
-use Rattle.tasks.specs.Tasks.{nameOf, packName}
-use Rattle.tasks.specs.Said.{isSet, setOf, fieldsSaid, taskSaid}
+use Rattle.tasks.specs.Tasks.{nameText, packName}
+use Rattle.tasks.specs.Said.{isMarks, marksOf, fieldsSaid, taskSaid}
 use Rattle.tasks.proofs.Names.{name-kept}
 use Rattle.faults.proofs.LineLaws.{TaskHolds, ranges, order}
 use Rattle.table.specs.Accepted.{MarksBelow, AcceptedTask}
 
-marks-below : (sets : ℕ) (f : List ℕ) (r : SetField) → sets % 4 ≡ 0 → readSet sets f ≡ r → isSet r ≡ true → MarksBelow sets (members (setOf r))
-marks-below sets f (Set c) by-four e h = read-below sets f c by-four e
+marks-below : (sets : ℕ) (f : List ℕ) (r : SetField) → sets % 4 ≡ 0 → readSet sets f ≡ r → isMarks r ≡ true → MarksBelow sets (members (marksOf r))
+marks-below sets f (Marks c) by-four e h = read-below sets f c by-four e
 marks-below sets f Bad by-four e h = absurd (false≢true h)
 
 -- the task of such a line may be taken, and its name is filled up with zeros
@@ -28,7 +28,7 @@ module _ (sets : ℕ) (line : List ℕ) (count : ℕ) (names : List Name) (by-fo
   unfolding taskSaid fieldsSaid
   is-name = h .named
 
-  marks : (isSet (readSet sets (field 7 line)) ≡ true) × (isSet (readSet sets (field 8 line)) ≡ true)
+  marks : (isMarks (readSet sets (field 7 line)) ≡ true) × (isMarks (readSet sets (field 8 line)) ≡ true)
   unfolding taskSaid fieldsSaid
   marks = and-eq-true-iff _ _ .0 (h .marked)
 
@@ -48,6 +48,6 @@ module _ (sets : ℕ) (line : List ℕ) (count : ℕ) (names : List Name) (by-fo
         ecb = marks-below sets (field 8 line) _ by-four refl (marks .1);
       }
 
-  pub name-filled : taskSaid sets line .task .name ≡ packName (nameOf (taskSaid sets line .task .name))
+  pub name-filled : taskSaid sets line .task .name ≡ packName (nameText (taskSaid sets line .task .name))
   unfolding taskSaid fieldsSaid
   name-filled = rw (name-kept (field 1 line) is-name)

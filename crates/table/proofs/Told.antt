@@ -17,7 +17,7 @@ use Rattle.faults.proofs.LineLaws.{not-long}
 use Rattle.table.specs.declared.Table.{Table}
 use Rattle.table.specs.declared.Refusal.{Refusal}
 use Rattle.table.specs.declared.Outcome.{Outcome}
-use Rattle.table.specs.declared.Verdict.the-variants.{Refused}
+use Rattle.table.specs.declared.Ruling.the-variants.{Refused}
 use Rattle.table.specs.Reading.{refused, accepted, unlessFault, finished, readFrom, readLines, readText}
 
 -- a refusal of the outcome, if it is one, tells a number up to 11 and a line up to `most`
@@ -26,7 +26,7 @@ pub record Told (most : ℕ) (r : Refusal) : Type 0 where
   pub line : r .line ≤ most
 
 abbrev ToldBy : ℕ → Outcome → Type 0
-ToldBy most o = (r : Refusal) → o .verdict ≡ Refused r → Told most r
+ToldBy most o = (r : Refusal) → o .ruling ≡ Refused r → Told most r
 
 refused-told : (n line most : ℕ) → n ≤ 11 → line ≤ most → ToldBy most (refused n line)
 refused-told n line most p q r e =
@@ -69,7 +69,7 @@ lines-long (b ∷ s) = go (eqb b 10) (lines-long s)
     go true h = omega arith
     go false h = omega (arith, lead-long b (lines s))
 
-pub read-told : (text : List ℕ) (r : Refusal) → readText text .verdict ≡ Refused r → Told 16385 r
+pub read-told : (text : List ℕ) (r : Refusal) → readText text .ruling ≡ Refused r → Told 16385 r
 unfolding readText
 read-told text = go (textFault text) refl
   where

@@ -7,7 +7,7 @@ use Rattle.fields.specs.Fields.{isName}
 use Rattle.sets.specs.Sets.{Set}
 use Rattle.sets.specs.Words.{members}
 use Rattle.tasks.specs.declared.Task.{Task}
-use Rattle.tasks.specs.Tasks.{nameOf}
+use Rattle.tasks.specs.Tasks.{nameText}
 use Rattle.table.specs.declared.Table.{Table}
 use Rattle.table.specs.Tasks.{at}
 
@@ -16,7 +16,7 @@ abbrev pub MarksBelow : ℕ → Set → Type 0
 MarksBelow sets A = (s : ℕ) → A s ≡ true → s < sets
 
 pub record AcceptedTask (sets : ℕ) (t : Task) : Type 0 where
-  pub name : isName (nameOf (t .name)) ≡ true
+  pub name : isName (nameText (t .name)) ≡ true
   pub work : (1 ≤ t .work .0) × (t .work .0 ≤ 250000000)
   pub period : (1 ≤ t .period .0) × (t .period .0 ≤ 250000000)
   pub deadline : (1 ≤ t .deadline .0) × (t .deadline .0 ≤ t .period .0)
@@ -32,4 +32,4 @@ pub record AcceptedTable (table : Table) : Type 0 where
   pub some : 1 ≤ table .count
   pub few : table .count ≤ 32
   pub tasks : (k : ℕ) → k < table .count → AcceptedTask (table .sets) (at table k)
-  pub distinct : (j k : ℕ) → j < k → k < table .count → nameOf (at table j .name) ≡ nameOf (at table k .name) → ⊥
+  pub distinct : (j k : ℕ) → j < k → k < table .count → nameText (at table j .name) ≡ nameText (at table k .name) → ⊥

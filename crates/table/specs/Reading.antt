@@ -9,19 +9,24 @@ use Rattle.faults.specs.declared.Finding.{Finding}
 use Rattle.faults.specs.declared.Finding.the-variants.{Fine, Fault}
 use Rattle.faults.specs.Faults.{textFault, headFault, taskFault, endFault}
 use Rattle.table.specs.declared.Table.{Table}
+use Rattle.table.specs.declared.Refusal.{Refusal}
 use Rattle.table.specs.declared.Outcome.{Outcome}
-use Rattle.table.specs.declared.Verdict.the-variants.{Accepted, Refused}
+use Rattle.table.specs.declared.Ruling.the-variants.{Accepted, Refused}
 use Rattle.table.specs.Tasks.{newTable, emptyTable, withTask, namesOf}
+
+-- a refusal that tells no line
+abbrev pub refusal : ℕ → Refusal
+refusal n = record { number = n; line = 0 }
 
 -- a refusal has its number and its line, and beside it stands the empty table
 abbrev pub refused : ℕ → ℕ → Outcome
 refused number line = record {
-  verdict = Refused (record { number = number; line = line });
+  ruling = Refused (record { number = number; line = line });
   table = emptyTable;
 }
 
 abbrev pub accepted : Table → Outcome
-accepted table = record { verdict = Accepted; table = table }
+accepted table = record { ruling = Accepted; table = table }
 
 -- what follows, unless there is a fault, of which this line is told
 abbrev pub unlessFault : Finding → ℕ → Outcome → Outcome

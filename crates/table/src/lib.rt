@@ -26,14 +26,14 @@ pub struct Refusal {
     pub line: u64,
 }
 
-pub enum Verdict {
+pub enum Ruling {
     Accepted,
     Refused(Refusal),
 }
 
-// The table stands beside the verdict, since an enum holds no array. Beside a refusal it is empty.
+// The table stands beside the ruling, since an enum holds no array. Beside a refusal it is empty.
 pub struct Outcome {
-    pub verdict: Verdict,
+    pub ruling: Ruling,
     pub table: Table,
 }
 
@@ -65,7 +65,7 @@ fn refuse(number: u64, line: u64) -> Outcome
 {
     let table = new_table(0, 0);
     Outcome {
-        verdict: Verdict::Refused(Refusal { number, line }),
+        ruling: Ruling::Refused(Refusal { number, line }),
         table,
     }
 }
@@ -99,7 +99,7 @@ fn read_tasks(sets: u64, brt: u64, input: &[u8]) -> Outcome
         return refuse(11, 1);
     }
     Outcome {
-        verdict: Verdict::Accepted,
+        ruling: Ruling::Accepted,
         table,
     }
 }

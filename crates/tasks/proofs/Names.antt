@@ -11,10 +11,10 @@ use borrow.Author.Tests.{ne-eqb, leb-true}
 use lib.Dec.{leb}
 use lib.ListN.{length, getD, take, drop, set, replicate, drop-of-length-le}
 use lib.Seq.{length-take-le, take-suc, take-all, drop-cons, set-at, append-snoc}
-use Rattle.fields.specs.Bytes.{all, isNameByte}
+use Rattle.fields.specs.Bytes.{everyByte, isNameByte}
 use Rattle.text.specs.Cut.{upTo}
 use Rattle.fields.specs.Fields.{isName}
-use Rattle.tasks.specs.Tasks.{packName, nameOf}
+use Rattle.tasks.specs.Tasks.{packName, nameText}
 
 abbrev zeros : List ℕ
 zeros = replicate 12 0
@@ -38,22 +38,22 @@ only-zeros zero (suc k) = refl
 only-zeros (suc n) zero = refl
 only-zeros (suc n) (suc k) = only-zeros n k
 
-unpacked : (f z : List ℕ) → upTo 0 z ≡ [] → all isNameByte f ≡ true → upTo 0 (f ++ z) ≡ f
-unfolding all upTo
+unpacked : (f z : List ℕ) → upTo 0 z ≡ [] → everyByte isNameByte f ≡ true → upTo 0 (f ++ z) ≡ f
+unfolding everyByte upTo
 unpacked [] z e h = e
 unpacked (b ∷ f) z e h =
-    let p = and-eq-true-iff (isNameByte b) (all isNameByte f) .0 h in
+    let p = and-eq-true-iff (isNameByte b) (everyByte isNameByte f) .0 h in
     let ne : b ≡ 0 → ⊥ = (λ q. false≢true (rw q at p .0)) in
     rw (ne-eqb b 0 ne) (ap (λ (l : List ℕ). b ∷ l) (unpacked f z e (p .1)))
 
 -- the name in the 12 bytes is the field that was packed
-pub name-kept : (f : List ℕ) → isName f ≡ true → nameOf (packName f) ≡ f
+pub name-kept : (f : List ℕ) → isName f ≡ true → nameText (packName f) ≡ f
 unfolding isName
 name-kept f h =
-    let p = and-eq-true-iff (leb 1 (length f) && leb (length f) 12) (all isNameByte f) .0 h in
+    let p = and-eq-true-iff (leb 1 (length f) && leb (length f) 12) (everyByte isNameByte f) .0 h in
     let q = and-eq-true-iff (leb 1 (length f)) (leb (length f) 12) .0 (p .0) in
     rw (take-all 12 f (leb-true (length f) 12 (q .1))) (unpacked f (drop (length f) (replicate 12 0)) (only-zeros (length f) 12) (p .1))
 
 -- a name has one spelling
 pub name-unique : (f g : List ℕ) → isName f ≡ true → isName g ≡ true → packName f ≡ packName g → f ≡ g
-name-unique f g h k e = sym (name-kept f h) ∙ ap nameOf e ∙ name-kept g k
+name-unique f g h k e = sym (name-kept f h) ∙ ap nameText e ∙ name-kept g k

@@ -12,7 +12,7 @@ use Rattle.sets.specs.Field.{readSet}
 use Rattle.tasks.specs.declared.Name.{Name}
 use Rattle.tasks.specs.declared.TaskLine.{TaskLine}
 use Rattle.tasks.specs.Tasks.{packName}
-use Rattle.tasks.specs.Said.{isSet, setOf, fieldsSaid}
+use Rattle.tasks.specs.Said.{isMarks, marksOf, fieldsSaid}
 
 -- what was found of a field: whether it is a name, and the name in its 12 bytes
 pub record SaysName (f : List ℕ) (is : Bool) (name : Name) : Type 0 where
@@ -29,11 +29,11 @@ number-said e i v = record { flag = i ∙ ap isValue e; amount = v ∙ ap valueO
 
 -- whether it is a cache-set field, and its set
 pub record SaysSet (sets : ℕ) (f : List ℕ) (is : Bool) (set : CacheSet) : Type 0 where
-  pub flag : is ≡ isSet (readSet sets f)
-  pub set-is : set ≡ setOf (readSet sets f)
+  pub flag : is ≡ isMarks (readSet sets f)
+  pub set-is : set ≡ marksOf (readSet sets f)
 
-pub set-said : {sets : ℕ} {f : List ℕ} {r : SetField} {is : Bool} {set : CacheSet} → r ≡ readSet sets f → is ≡ isSet r → set ≡ setOf r → SaysSet sets f is set
-set-said e i v = record { flag = i ∙ ap isSet e; set-is = v ∙ ap setOf e }
+pub set-said : {sets : ℕ} {f : List ℕ} {r : SetField} {is : Bool} {set : CacheSet} → r ≡ readSet sets f → is ≡ isMarks r → set ≡ marksOf r → SaysSet sets f is set
+set-said e i v = record { flag = i ∙ ap isMarks e; set-is = v ∙ ap marksOf e }
 
 module _ {sets : ℕ} {shaped named : Bool} {packed : Name} {fn fc ft fd fj fb fu fe : List ℕ}
     {ic it id ij ib : Bool} {vc vt vd vj vb : ℕ} {iu ie : Bool} {su se : CacheSet} where

@@ -7,7 +7,7 @@ use Rattle.text.specs.Cut.{field}
 use Rattle.fields.specs.Fields.{isNumber, number, hasShape, isName}
 use Rattle.sets.specs.declared.CacheSet.{CacheSet}
 use Rattle.sets.specs.declared.SetField.{SetField}
-use Rattle.sets.specs.declared.SetField.the-variants.{Set, Bad}
+use Rattle.sets.specs.declared.SetField.the-variants.{Marks, Bad}
 use Rattle.sets.specs.Field.{readSet}
 use Rattle.tasks.specs.declared.HeadLine.{HeadLine}
 use Rattle.tasks.specs.declared.TaskLine.{TaskLine}
@@ -23,13 +23,13 @@ headSaid line = record {
 }
 
 -- whether a field is a set of cache sets, and which (none of them where it is no set)
-abbrev pub isSet : SetField → Bool
-isSet (Set c) = true
-isSet Bad = false
+abbrev pub isMarks : SetField → Bool
+isMarks (Marks c) = true
+isMarks Bad = false
 
-abbrev pub setOf : SetField → CacheSet
-setOf (Set c) = c
-setOf Bad = noSets
+abbrev pub marksOf : SetField → CacheSet
+marksOf (Marks c) = c
+marksOf Bad = noSets
 
 -- what a task line says, field by field: after `T` the name, then C, T, D, J and B, and the two sets
 unfoldable pub fieldsSaid : ℕ → Bool → (name work period deadline jitter blocking ucb ecb : List ℕ) → TaskLine
@@ -37,7 +37,7 @@ fieldsSaid sets shaped name work period deadline jitter blocking ucb ecb = recor
   shaped = shaped;
   named = isName name;
   numbered = isNumber work && isNumber period && isNumber deadline && isNumber jitter && isNumber blocking;
-  marked = isSet (readSet sets ucb) && isSet (readSet sets ecb);
+  marked = isMarks (readSet sets ucb) && isMarks (readSet sets ecb);
   task = record {
     name = packName name;
     work = record { 0 = number work };
@@ -45,8 +45,8 @@ fieldsSaid sets shaped name work period deadline jitter blocking ucb ecb = recor
     deadline = record { 0 = number deadline };
     jitter = record { 0 = number jitter };
     blocking = record { 0 = number blocking };
-    ucb = setOf (readSet sets ucb);
-    ecb = setOf (readSet sets ecb);
+    ucb = marksOf (readSet sets ucb);
+    ecb = marksOf (readSet sets ecb);
   };
 }
 

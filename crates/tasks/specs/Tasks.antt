@@ -1,4 +1,4 @@
--- A task and its name.
+-- A task, its name, its own work and its limit.
 -- Assumes nothing.
 use Prim.Native.Nat.{ℕ, _+_, _-_}
 use mathlib.Core.List.{List, [], _++_}
@@ -9,8 +9,8 @@ use Rattle.tasks.specs.declared.Name.{Name}
 use Rattle.tasks.specs.declared.Task.{Task}
 
 -- the bytes of a name, without the zeros that fill it up
-abbrev pub nameOf : Name → List ℕ
-nameOf n = upTo 0 (n .bytes)
+abbrev pub nameText : Name → List ℕ
+nameText n = upTo 0 (n .bytes)
 
 -- a name in 12 bytes, filled up with zeros
 abbrev pub packName : List ℕ → Name

@@ -5,7 +5,7 @@ use sets::SetField;
 use units::Ticks;
 ghost use mathlib.Core.Path.{_≡_};
 ghost use Rattle.tasks.specs.Tasks.{packName};
-ghost use Rattle.tasks.specs.Said.{headSaid, isSet, setOf, fieldsSaid, taskSaid};
+ghost use Rattle.tasks.specs.Said.{headSaid, isMarks, marksOf, fieldsSaid, taskSaid};
 
 // A name of 1 to 12 bytes, filled up with zeros.
 pub struct Name {
@@ -50,8 +50,8 @@ pub fn head_said(line: &[u8]) -> HeadLine
     let sets_field = text::before(from_sets, b'\t');
     let from_brt = text::past(from_sets, b'\t', sets_field);
     let brt_field = text::before(from_brt, b'\t');
-    let sets = fields::number(sets_field);
-    let brt = fields::number(brt_field);
+    let sets = fields::read_number(sets_field);
+    let brt = fields::read_number(brt_field);
     HeadLine {
         shaped: fields::is_letter(letter, b'K')
             & (text::goes_on(from_sets, sets_field) & !text::goes_on(from_brt, brt_field)),
@@ -77,20 +77,20 @@ fn pack_name(f: &[u8]) -> Name
     Name { bytes }
 }
 
-fn is_set(f: SetField) -> bool
-    ensures { λ r. ⌜ r ≡ isSet f ⌝ }
+fn is_marks(f: SetField) -> bool
+    ensures { λ r. ⌜ r ≡ isMarks f ⌝ }
 {
     match f {
-        SetField::Set(_) => true,
+        SetField::Marks(_) => true,
         SetField::Bad => false,
     }
 }
 
-fn set_of(f: SetField) -> CacheSet
-    ensures { λ r. ⌜ r ≡ setOf f ⌝ }
+fn marks_of(f: SetField) -> CacheSet
+    ensures { λ r. ⌜ r ≡ marksOf f ⌝ }
 {
     match f {
-        SetField::Set(set) => set,
+        SetField::Marks(marks) => marks,
         SetField::Bad => CacheSet::EMPTY,
     }
 }
@@ -112,11 +112,11 @@ fn fields_said(
 {
     let named = fields::is_name(name);
     let name = pack_name(name);
-    let work = fields::number(work);
-    let period = fields::number(period);
-    let deadline = fields::number(deadline);
-    let jitter = fields::number(jitter);
-    let blocking = fields::number(blocking);
+    let work = fields::read_number(work);
+    let period = fields::read_number(period);
+    let deadline = fields::read_number(deadline);
+    let jitter = fields::read_number(jitter);
+    let blocking = fields::read_number(blocking);
     let ucb = CacheSet::from_field(ucb, sets);
     let ecb = CacheSet::from_field(ecb, sets);
     let task = Task {
@@ -126,8 +126,8 @@ fn fields_said(
         deadline: Ticks(fields::value_of(deadline)),
         jitter: Ticks(fields::value_of(jitter)),
         blocking: Ticks(fields::value_of(blocking)),
-        ucb: set_of(ucb),
-        ecb: set_of(ecb),
+        ucb: marks_of(ucb),
+        ecb: marks_of(ecb),
     };
     TaskLine {
         shaped,
@@ -137,7 +137,7 @@ fn fields_said(
             & fields::is_value(deadline)
             & fields::is_value(jitter)
             & fields::is_value(blocking),
-        marked: is_set(ucb) & is_set(ecb),
+        marked: is_marks(ucb) & is_marks(ecb),
         task,
     }
 }

@@ -9,15 +9,15 @@ use Rattle.text.specs.Cut.{upTo}
 use Rattle.text.proofs.Left.{left-cons}
 
 -- the first i bytes hold no c
-pub record Passed (c : ℕ) (s : List ℕ) (i : ℕ) : Type 0 where
+pub record Scanned (c : ℕ) (s : List ℕ) (i : ℕ) : Type 0 where
   pub fits : i ≤ length s
   pub counts : i + length (upTo c (drop i s)) ≡ length (upTo c s)
 
-pub none-passed : (c : ℕ) (s : List ℕ) → Passed c s 0
+pub none-passed : (c : ℕ) (s : List ℕ) → Scanned c s 0
 none-passed c s = record { fits = zero-le; counts = omega arith }
 
-module _ {c : ℕ} {s : List ℕ} {i : ℕ} (p : Passed c s i) where
-  pub up-to-step : {j : ℕ} → j ≡ i + 1 → i < length s → (getD s i 0 ≡ c → ⊥) → Passed c s j
+module _ {c : ℕ} {s : List ℕ} {i : ℕ} (p : Scanned c s i) where
+  pub up-to-step : {j : ℕ} → j ≡ i + 1 → i < length s → (getD s i 0 ≡ c → ⊥) → Scanned c s j
   unfolding upTo
   up-to-step e h n = rw e (record { fits = omega arith; counts = omega (arith, rw (left-cons s i h, ne-eqb _ _ n) at (p .counts)) })
 

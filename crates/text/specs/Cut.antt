@@ -16,9 +16,9 @@ after c [] = []
 after c (b ∷ s) = cond (eqb b c) s (after c s)
 
 -- how often c stands there
-unfoldable pub count : ℕ → List ℕ → ℕ
-count c [] = 0
-count c (b ∷ s) = cond (eqb b c) 1 0 + count c s
+unfoldable pub occurrences : ℕ → List ℕ → ℕ
+occurrences c [] = 0
+occurrences c (b ∷ s) = cond (eqb b c) 1 0 + occurrences c s
 
 -- what stands after the first k tabs of a line, nothing where it has fewer
 unfoldable pub pastTabs : ℕ → List ℕ → List ℕ
@@ -31,7 +31,7 @@ field k line = upTo 9 (pastTabs k line)
 
 -- one field more than there are tabs
 abbrev pub fieldCount : List ℕ → ℕ
-fieldCount line = count 9 line + 1
+fieldCount line = occurrences 9 line + 1
 
 -- the byte b put in front of the first line
 abbrev pub lead : ℕ → List (List ℕ) → List (List ℕ)

@@ -2,7 +2,7 @@
 ghost use mathlib.Core.Path.{_≡_};
 ghost use lib.Dec.{ltb};
 ghost use lib.ListN.{length};
-ghost use Rattle.text.specs.Cut.{upTo, after, count};
+ghost use Rattle.text.specs.Cut.{upTo, after, occurrences};
 
 // How many bytes stand before the first c. Four bytes a turn cost less than one.
 fn find(s: &[u8], c: u8) -> usize
@@ -54,7 +54,7 @@ pub fn past<'a>(s: &'a [u8], c: u8, part: &'a [u8]) -> &'a [u8]
 // Whether a tab stands in a line, where its first field is known: the line then goes on past that field.
 pub fn goes_on<'a>(line: &'a [u8], first: &'a [u8]) -> bool
     requires { ⌜ now first ≡ upTo 9 (now line) ⌝ }
-    ensures { λ r. ⌜ r ≡ ltb 0 (count 9 (now (line .entry))) ⌝ }
+    ensures { λ r. ⌜ r ≡ ltb 0 (occurrences 9 (now (line .entry))) ⌝ }
 {
     first.len() < line.len()
 }

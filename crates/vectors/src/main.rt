@@ -2,8 +2,8 @@
 // block reload time, how many tasks it has, and of the first its name, C, T, D, J, B and the sizes of UCB and ECB.
 use libc::STDOUT_FILENO;
 use table::Refusal;
+use table::Ruling;
 use table::Table;
-use table::Verdict;
 use tasks::Name;
 use tasks::Task;
 ghost use Prim.Native.Nat.{_+_, _≤_};
@@ -55,11 +55,11 @@ fn say_table(table: Table) {
 
 fn say_answer(input: &[u8]) {
     let out = table::read(input);
-    let verdict = out.verdict;
+    let ruling = out.ruling;
     let table = out.table;
-    match verdict {
-        Verdict::Accepted => say_table(table),
-        Verdict::Refused(refusal) => say_refusal(refusal),
+    match ruling {
+        Ruling::Accepted => say_table(table),
+        Ruling::Refused(refusal) => say_refusal(refusal),
     }
 }
 

@@ -8,16 +8,16 @@ use Rattle.demand.specs.declared.Cell.{Cell}
 use Rattle.demand.specs.declared.Row.{Row}
 
 -- what stands past the end of the cells and of the rows: no statement rests on it
-abbrev pub noCell : Cell
-noCell = record { response = Within (record { 0 = 0 }) }
+abbrev pub blankCell : Cell
+blankCell = record { response = Within (record { 0 = 0 }) }
 
-abbrev pub noRow : Row
-noRow = record { cells = [] }
+abbrev pub blankRow : Row
+blankRow = record { cells = [] }
 
 -- a row's answer under method m
-abbrev pub answerIn : Row → ℕ → Response
-answerIn row m = getD (row .cells) m noCell .response
+abbrev pub answerUnder : Row → ℕ → Response
+answerUnder row m = getD (row .cells) m blankCell .response
 
 -- the answers of the rows: under method m, for the task at position i
 abbrev pub answersIn : List Row → ℕ → ℕ → Response
-answersIn rows m i = answerIn (getD rows i noRow) m
+answersIn rows m i = answerUnder (getD rows i blankRow) m

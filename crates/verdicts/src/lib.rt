@@ -5,13 +5,14 @@ use writer::put_byte;
 use writer::put_field;
 ghost use mathlib.Core.Path.{_≡_};
 ghost use mathlib.Core.Bool.{false, _&&_};
-ghost use mathlib.Core.List.{map};
+ghost use mathlib.Core.List.{map, flatMap};
 ghost use Prim.Native.Nat.{_+_, _≤_};
 ghost use lib.ListN.{length, getD};
-ghost use Rattle.writer.specs.Text.{field, flat};
+ghost use Rattle.demand.specs.Positions.{methods};
+ghost use Rattle.writer.specs.Text.{afterTab};
 ghost use Rattle.writer.specs.Wrote.{Wrote};
-ghost use Rattle.verdicts.specs.Verdicts.{below, hasResponse, verdict, yesNo, verdictLine};
-ghost use Rattle.verdicts.specs.Rows.{answerIn, answersIn};
+ghost use Rattle.verdicts.specs.Verdicts.{hasResponse, verdict, yesNo, verdictLine};
+ghost use Rattle.verdicts.specs.Rows.{answerUnder, answersIn};
 
 // Whether every task that was looked at has a response, for each method.
 struct Verdicts {
@@ -29,7 +30,7 @@ fn has_response(answer: Response) -> bool
 
 // The verdicts with one row more.
 fn with_row(so_far: Verdicts, row: Row) -> Verdicts
-    ensures { λ r. ⌜ r .yes ≡ map (λ m. getD («so_far» .yes) m false && hasResponse (answerIn row m)) (below 6) ⌝ }
+    ensures { λ r. ⌜ r .yes ≡ map (λ m. getD («so_far» .yes) m false && hasResponse (answerUnder row m)) methods ⌝ }
 {
     let mut yes = [false; 6];
     for m in 0..6usize {
@@ -43,7 +44,7 @@ fn with_row(so_far: Verdicts, row: Row) -> Verdicts
 // The verdicts on the first n rows.
 fn verdicts_on(rows: [Row; 32], n: usize) -> Verdicts
     requires { ⌜ n ≤ 32 ⌝ }
-    ensures { λ r. ⌜ r .yes ≡ map (λ m. verdict n (answersIn rows m)) (below 6) ⌝ }
+    ensures { λ r. ⌜ r .yes ≡ map (λ m. verdict n (answersIn rows m)) methods ⌝ }
 {
     let mut all = Verdicts { yes: [true; 6] };
     for i in 0..n {
@@ -56,7 +57,7 @@ fn verdicts_on(rows: [Row; 32], n: usize) -> Verdicts
 
 fn put_yes_no(out: &mut [u8], at: usize, yes: bool) -> usize
     requires { ⌜ at + 4 ≤ length (now out) ⌝ }
-    ensures { λ r. ⌜ Wrote (now (out .entry)) at (field (yesNo yes)) (now (out .exit)) r ⌝ }
+    ensures { λ r. ⌜ Wrote (now (out .entry)) at (afterTab (yesNo yes)) (now (out .exit)) r ⌝ }
 {
     if yes {
         put_field(out, at, b"yes")
@@ -68,7 +69,7 @@ fn put_yes_no(out: &mut [u8], at: usize, yes: bool) -> usize
 // The six verdicts, each a field.
 fn put_verdicts(out: &mut [u8], at: usize, told: Verdicts) -> usize
     requires { ⌜ at + 24 ≤ length (now out) ⌝ }
-    ensures { λ r. ⌜ Wrote (now (out .entry)) at (flat (λ yes. field (yesNo yes)) (told .yes)) (now (out .exit)) r × (r ≤ at + 24) ⌝ }
+    ensures { λ r. ⌜ Wrote (now (out .entry)) at (flatMap (λ yes. afterTab (yesNo yes)) (told .yes)) (now (out .exit)) r × (r ≤ at + 24) ⌝ }
 {
     let mut next = at;
     for m in 0..6usize {

@@ -1,17 +1,16 @@
 -- Writes, one after the other, and the texts that they make up. Assumes nothing.
 use mathlib.Core.Path.{_≡_, refl, sym, ap, _∙_}
 use Prim.Native.Nat.{ℕ, _+_, _≤_, _<_}
-use mathlib.Core.List.{List, [], _∷_, _++_, map, append-assoc, append-nil}
+use mathlib.Core.List.{List, [], _∷_, _++_, map, flatMap, append-assoc, append-nil}
 use native.Mathlib.Nat.{add-assoc}
 use native.Mathlib.Numerals.{add-one}
 use native.Mathlib.Omega.{arith}
 use lib.ListN.{length, take, set, getD, length-append, length-take}
 use lib.Seq.{take-suc-set, drop-set-lt, take-suc, take-all, drop-drop}
-use Rattle.writer.specs.Text.{flat}
 use Rattle.writer.specs.Wrote.{Wrote}
 
-pub one : (d : List ℕ) (at b : ℕ) → at < length d → Wrote d at (b ∷ []) (set d at b) (at + 1)
-one d at b h = record { next = refl; front = rw (add-one, take-suc-set); rest = drop-set-lt (at + 1) d at b (omega arith) }
+pub one-byte : (d : List ℕ) (at b : ℕ) → at < length d → Wrote d at (b ∷ []) (set d at b) (at + 1)
+one-byte d at b h = record { next = refl; front = rw (add-one, take-suc-set); rest = drop-set-lt (at + 1) d at b (omega arith) }
 
 pub nothing : (d : List ℕ) (at : ℕ) → Wrote d at [] d at
 nothing d at = record { next = omega arith; front = rw append-nil; rest = refl }
@@ -31,10 +30,10 @@ reading e w = rw e at w
 
 -- the first i bytes of a text are written, and then the next
 pub one-more : {d₀ d : List ℕ} {at : ℕ} (text : List ℕ) (i : ℕ) → i < length text → at + i < length d → Wrote d₀ at (take i text) d (at + i) → Wrote d₀ at (take (i + 1) text) (set d (at + i) (getD text i 0)) (at + (i + 1))
-one-more {d} {at} text i p q w = rw (add-one i, take-suc text i 0) (rw (← add-one i, ← add-assoc) (w then one d (at + i) (getD text i 0) q))
+one-more {d} {at} text i p q w = rw (add-one i, take-suc text i 0) (rw (← add-one i, ← add-assoc) (w then one-byte d (at + i) (getD text i 0) q))
 
-pub all : {d₀ d : List ℕ} {at r i : ℕ} {text : List ℕ} → length text ≤ i → Wrote d₀ at (take i text) d r → Wrote d₀ at text d r
-all p w = rw (take-all _ _ p) at w
+pub whole-text : {d₀ d : List ℕ} {at r i : ℕ} {text : List ℕ} → length text ≤ i → Wrote d₀ at (take i text) d r → Wrote d₀ at text d r
+whole-text p w = rw (take-all _ _ p) at w
 
 -- what is written from the start of a buffer lies within it, in the form that a loan of that part asks
 pub counted : {d₀ text d : List ℕ} {r : ℕ} → Wrote d₀ 0 text d r → (r ≤ length d) × (r ≡ length (take r d))
@@ -43,10 +42,12 @@ counted {d₀} {text} {d} {r} w =
     (omega (arith, e, length-take r d), sym e)
 
 -- the texts of a list with one element more at its end
-pub flat-snoc : {A : Type 0} (f : A → List ℕ) (xs : List A) (x : A) → flat f (xs ++ (x ∷ [])) ≡ flat f xs ++ f x
-flat-snoc f [] x = append-nil (f x)
-flat-snoc f (y ∷ ys) x = rw (flat-snoc f ys x) (sym (append-assoc (f y) (flat f ys) (f x)))
+pub flatMap-snoc : {A : Type 0} (f : A → List ℕ) (xs : List A) (x : A) → flatMap f (xs ++ (x ∷ [])) ≡ flatMap f xs ++ f x
+unfolding flatMap
+flatMap-snoc f [] x = append-nil (f x)
+flatMap-snoc f (y ∷ ys) x = rw (flatMap-snoc f ys x) (sym (append-assoc (f y) (flatMap f ys) (f x)))
 
-pub flat-map : {A B : Type 0} (f : B → List ℕ) (g : A → B) (xs : List A) → flat f (map g xs) ≡ flat (λ x. f (g x)) xs
-flat-map f g [] = refl
-flat-map f g (x ∷ xs) = rw (flat-map f g xs)
+pub flatMap-map : {A B : Type 0} (f : B → List ℕ) (g : A → B) (xs : List A) → flatMap f (map g xs) ≡ flatMap (λ x. f (g x)) xs
+unfolding flatMap
+flatMap-map f g [] = refl
+flatMap-map f g (x ∷ xs) = rw (flatMap-map f g xs)

@@ -2,7 +2,7 @@
 ghost use mathlib.Core.List.{[], _∷_};
 ghost use Prim.Native.Nat.{_+_, _≤_, _<_};
 ghost use lib.ListN.{length};
-ghost use Rattle.writer.specs.Text.{spelled, field};
+ghost use Rattle.writer.specs.Text.{spelled, afterTab};
 ghost use Rattle.writer.specs.Wrote.{Wrote};
 
 pub fn put_byte(out: &mut [u8], at: usize, b: u8) -> usize
@@ -39,8 +39,8 @@ pub fn put_number(out: &mut [u8], at: usize, n: u64) -> usize
 
 // A tab and a text.
 pub fn put_field(out: &mut [u8], at: usize, text: &[u8]) -> usize
-    requires { ⌜ at + length (field (now text)) ≤ length (now out) ⌝ }
-    ensures { λ r. ⌜ Wrote (now (out .entry)) at (field (now (text .entry))) (now (out .exit)) r ⌝ }
+    requires { ⌜ at + length (afterTab (now text)) ≤ length (now out) ⌝ }
+    ensures { λ r. ⌜ Wrote (now (out .entry)) at (afterTab (now (text .entry))) (now (out .exit)) r ⌝ }
 {
     let start = put_byte(out, at, b'\t');
     put_bytes(out, start, text)
@@ -48,8 +48,8 @@ pub fn put_field(out: &mut [u8], at: usize, text: &[u8]) -> usize
 
 // A tab and a number.
 pub fn put_number_field(out: &mut [u8], at: usize, n: u64) -> usize
-    requires { ⌜ at + length (field (spelled n)) ≤ length (now out) ⌝ }
-    ensures { λ r. ⌜ Wrote (now (out .entry)) at (field (spelled n)) (now (out .exit)) r ⌝ }
+    requires { ⌜ at + length (afterTab (spelled n)) ≤ length (now out) ⌝ }
+    ensures { λ r. ⌜ Wrote (now (out .entry)) at (afterTab (spelled n)) (now (out .exit)) r ⌝ }
 {
     let start = put_byte(out, at, b'\t');
     put_number(out, start, n)

@@ -1,6 +1,6 @@
--- `crpd::report` meets its contract, by the reading's verdict.
+-- `crpd::report` meets its contract, by the reading's ruling.
 -- Assumes nothing.
-use Rattle.crpd.proofs.Steps.{accepted, report-refused, report-accepted}
+use Rattle.crpd.proofs.Steps.{outcome-accepted, report-refused, report-accepted}
 use borrow.Author.Needs.{needs}
 use Rattle.crpd.proofs.report.Statement.{statement}
 use Rattle.crpd.proofs.report.Tie as tie
@@ -8,19 +8,19 @@ use Rattle.crpd.proofs.report.Tie as tie
 read-requires : tie.Need-read-requires
 read-requires c κs = search needs
 
-enum-known-verdict : tie.Need-enum-known-verdict
-enum-known-verdict c = search needs
+enum-known-ruling : tie.Need-enum-known-ruling
+enum-known-ruling c = search needs
 
 returns : tie.Need-returns
 returns c =
-    report-refused _ (c .before .before .before .read .result) (c .before .before .before .read .ensures) _ _ (c .before .verdict .given .1)
+    report-refused _ (c .before .before .before .read .result) (c .before .before .before .read .ensures) _ _ (c .before .ruling .given .1)
 
 enum-told : tie.Need-enum-told
 enum-told c = search needs
 
 report-in-requires : tie.Need-report-in-requires
 report-in-requires c κs =
-    accepted _ (c .before .before .before .before .read .result) (c .before .before .before .before .read .ensures) (c .before .before .enum-told .given .1)
+    outcome-accepted _ (c .before .before .before .before .read .result) (c .before .before .before .before .read .ensures) (c .before .before .enum-told .given .1)
 
 same-length : tie.Need-same-length
 same-length c = search needs
@@ -35,7 +35,7 @@ report-spec =
     tie.close
     (tie.spec
     read-requires
-    enum-known-verdict
+    enum-known-ruling
     returns
     enum-told
     report-in-requires

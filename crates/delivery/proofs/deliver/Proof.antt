@@ -1,11 +1,11 @@
 -- `delivery::deliver` meets its contract: it refuses before any store, or writes all of the text. Assumes nothing.
 use borrow.Author.Needs.{needs}
-use Rattle.delivery.proofs.Deliveries.{delivered, refused}
+use Rattle.delivery.proofs.Deliveries.{delivered, not-delivered}
 use Rattle.delivery.proofs.deliver.Statement.{statement}
 use Rattle.delivery.proofs.deliver.Tie as tie
 
 returns : tie.Need-returns
-returns c = refused (c .if1 .taken)
+returns c = not-delivered (c .if1 .taken)
 
 put-bytes-requires : tie.Need-put-bytes-requires
 put-bytes-requires c κs = search needs

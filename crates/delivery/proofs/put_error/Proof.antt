@@ -1,11 +1,11 @@
 -- `delivery::put_error` meets its contract: four writes, one after the other. A number of 64 bits has at most 20 digits. Assumes nothing.
 use mathlib.Core.Path.{_≡_}
-use mathlib.Core.List.{List, [], _∷_, _++_, append-assoc, append-nil}
+use mathlib.Core.List.{List, [], _∷_, _++_, flatMap, append-assoc, append-nil}
 use Prim.Native.Nat.{ℕ, _≤_}
 use native.Mathlib.Omega.{arith}
 use lib.ListN.{length}
 use Rattle.table.specs.declared.Refusal.{Refusal}
-use Rattle.writer.specs.Text.{spelled, field}
+use Rattle.writer.specs.Text.{spelled, afterTab}
 use Rattle.writer.proofs.Spelling.{spelled-short}
 use Rattle.writer.proofs.Writes.{_then_, reading}
 use Rattle.delivery.specs.Error.{errorText}
@@ -17,9 +17,9 @@ regroup : (a b c d : List ℕ) → a ++ b ++ c ++ d ≡ a ++ (b ++ (c ++ [])) ++
 regroup a b c d = simp (append-assoc, append-nil)
 
 -- the line as its four writes give it: letter, number, line and LF
-error-parts : (e : Refusal) → (69 ∷ []) ++ field (spelled (e .number)) ++ field (spelled (e .line)) ++ (10 ∷ []) ≡ errorText e
-unfolding errorText
-error-parts e = regroup (69 ∷ []) (field (spelled (e .number))) (field (spelled (e .line))) (10 ∷ [])
+error-parts : (e : Refusal) → (69 ∷ []) ++ afterTab (spelled (e .number)) ++ afterTab (spelled (e .line)) ++ (10 ∷ []) ≡ errorText e
+unfolding errorText flatMap
+error-parts e = regroup (69 ∷ []) (afterTab (spelled (e .number))) (afterTab (spelled (e .line))) (10 ∷ [])
 
 number-short : (c : tie.Start) → length (spelled (c .args .e .number)) ≤ 20
 number-short c = spelled-short 19 (c .args .e .number) (search needs)

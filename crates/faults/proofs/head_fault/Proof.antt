@@ -2,14 +2,14 @@
 -- Assumes nothing.
 use mathlib.Core.Path.{_≡_, _∙_}
 use lib.ListN.{drop}
-use Rattle.faults.specs.Faults.{Rows, firstFault, headRows, headFault}
+use Rattle.faults.specs.Faults.{Conditions, firstFault, headRows, headFault}
 use Rattle.faults.proofs.Chain.{negated, passed-row, met-row, no-row}
 use borrow.Author.Needs.{needs}
 use Rattle.faults.proofs.head_fault.Statement.{statement}
 use Rattle.faults.proofs.head_fault.Tie as tie
 
 -- the rows, and that the first of them are passed over at the place past each test
-abbrev rows : tie.Start → Rows
+abbrev rows : tie.Start → Conditions
 rows c = headRows (c .args .said)
 
 abbrev start1 : tie.Else1 → tie.Start

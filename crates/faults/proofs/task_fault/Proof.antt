@@ -4,13 +4,13 @@ use mathlib.Core.Path.{_≡_, _∙_}
 use borrow.Author.Needs.{needs}
 use borrow.Author.Tests.{le-leb, lt-leb}
 use lib.ListN.{drop, take}
-use Rattle.faults.specs.Faults.{Rows, firstFault, taskRows, taskFault}
+use Rattle.faults.specs.Faults.{Conditions, firstFault, taskRows, taskFault}
 use Rattle.faults.proofs.Chain.{plain, negated, passed-row, met-row, no-row}
 use Rattle.faults.proofs.task_fault.Statement.{statement}
 use Rattle.faults.proofs.task_fault.Tie as tie
 
 -- the rows, and that the first of them are passed over at the place past each test
-abbrev rows : tie.Start → Rows
+abbrev rows : tie.Start → Conditions
 rows c = taskRows (c .args .count) (take (c .args .count) (c .args .names)) (c .args .said)
 
 abbrev start1 : tie.Else1 → tie.Start

@@ -4,12 +4,12 @@ use mathlib.Core.Path.{_≡_, _∙_}
 use borrow.Author.Tests.{lt-ltb, le-ltb}
 use denote.Ref.{now}
 use lib.ListN.{drop}
-use Rattle.faults.specs.Faults.{Rows, firstFault, textRows, textFault}
+use Rattle.faults.specs.Faults.{Conditions, firstFault, textRows, textFault}
 use Rattle.faults.proofs.Chain.{negated, passed-row, met-row, no-row}
 use Rattle.faults.proofs.text_fault.Statement.{statement}
 use Rattle.faults.proofs.text_fault.Tie as tie
 
-abbrev rows : tie.Else1 → Rows
+abbrev rows : tie.Else1 → Conditions
 rows c = textRows (now (c .before .before .args .input))
 
 -- that the first row is passed over at the place past its test

@@ -7,13 +7,13 @@ use borrow.Author.Needs.{needs}
 use lib.ListN.{length, drop}
 use borrow.Author.Tests.{not-true, not-false}
 use denote.Ref.{now}
-use Rattle.fields.specs.Bytes.{all, isNameByte}
-use Rattle.fields.proofs.Scan.{all-step, all-stop, all-end}
+use Rattle.fields.specs.Bytes.{everyByte, isNameByte}
+use Rattle.fields.proofs.Scan.{every-step, every-stop, every-end}
 use Rattle.fields.proofs.all_name_bytes.Statement.{statement}
 use Rattle.fields.proofs.all_name_bytes.Tie as tie
 
 abbrev Inv-loop : tie.InvT-loop
-Inv-loop f i₀ i = (i ≤ length f) × (all isNameByte (drop i f) ≡ all isNameByte f)
+Inv-loop f i₀ i = (i ≤ length f) × (everyByte isNameByte (drop i f) ≡ everyByte isNameByte f)
 
 abbrev μ-loop : tie.MeasureT-loop
 μ-loop f i₀ i = length f - i
@@ -30,7 +30,7 @@ is-name-byte-requires c κs = tt
 returns : tie.Need-returns Inv-loop μ-loop
 returns c =
     let at = c .before .before .before .before in
-    cc (all-stop isNameByte (now (at .before .before .args .f)) (at .loop .i) (search needs) (sym (c .before .is-name-byte .ensures) ∙ not-true _ (c .if1 .taken)))
+    cc (every-stop isNameByte (now (at .before .before .args .f)) (at .loop .i) (search needs) (sym (c .before .is-name-byte .ensures) ∙ not-true _ (c .if1 .taken)))
 
 add-i : tie.Need-add-i Inv-loop μ-loop
 add-i c = omega arith
@@ -41,10 +41,10 @@ loop-less c = omega arith
 loop-again : tie.Need-loop-again Inv-loop μ-loop
 loop-again c =
     let at = c .before .before .before .before in
-    (omega arith, cc (all-step isNameByte (now (at .before .before .args .f)) (at .loop .i) (search needs) (sym (c .before .is-name-byte .ensures) ∙ not-false _ (c .if1 .left))))
+    (omega arith, cc (every-step isNameByte (now (at .before .before .args .f)) (at .loop .i) (search needs) (sym (c .before .is-name-byte .ensures) ∙ not-false _ (c .if1 .left))))
 
 returns-2 : tie.Need-returns-2 Inv-loop μ-loop
-returns-2 c = all-end _ _ _ (c .loop-test .left) ∙ c .before .loop .inv .1
+returns-2 c = every-end _ _ _ (c .loop-test .left) ∙ c .before .loop .inv .1
 
 pub all-name-bytes-spec : {M : Type 1} → statement M
 all-name-bytes-spec =

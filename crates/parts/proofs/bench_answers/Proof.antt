@@ -1,6 +1,6 @@
--- `parts::bench_answers` meets its contract, by the reading's verdict.
+-- `parts::bench_answers` meets its contract, by the reading's ruling.
 -- Assumes nothing.
-use Rattle.crpd.proofs.Steps.{accepted}
+use Rattle.crpd.proofs.Steps.{outcome-accepted}
 use borrow.Author.Needs.{needs}
 use Rattle.parts.proofs.bench_answers.Statement.{statement}
 use Rattle.parts.proofs.bench_answers.Tie as tie
@@ -18,7 +18,7 @@ enum-told-2 : tie.Need-enum-told-2
 enum-told-2 c = search needs
 
 answer-requires : tie.Need-answer-requires
-answer-requires c κs = accepted _ _ (c .before .before .before .read .ensures) (c .before .enum-told2 .given .1)
+answer-requires c κs = outcome-accepted _ _ (c .before .before .before .read .ensures) (c .before .enum-told2 .given .1)
 
 returns-2 : tie.Need-returns-2
 returns-2 c = rw (← c .before .before .before .before .read .ensures, c .before .before .enum-told2 .given .1) (c .answer .ensures)

@@ -1,7 +1,7 @@
--- `parts::bench_write` meets its contract, by the reading's verdict.
+-- `parts::bench_write` meets its contract, by the reading's ruling.
 -- Assumes nothing.
 use mathlib.Core.Path.{refl}
-use Rattle.crpd.proofs.Steps.{accepted}
+use Rattle.crpd.proofs.Steps.{outcome-accepted}
 use borrow.Author.Needs.{needs}
 use Rattle.parts.proofs.bench_write.Statement.{statement}
 use Rattle.parts.proofs.bench_write.Tie as tie
@@ -19,7 +19,7 @@ enum-told-2 : tie.Need-enum-told-2
 enum-told-2 c = search needs
 
 write-requires : tie.Need-write-requires
-write-requires c κs = accepted _ _ (c .before .before .before .before .read .ensures) (c .before .before .enum-told2 .given .1)
+write-requires c κs = outcome-accepted _ _ (c .before .before .before .before .read .ensures) (c .before .before .enum-told2 .given .1)
 
 same-length : tie.Need-same-length
 same-length c = search needs

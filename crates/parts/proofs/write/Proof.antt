@@ -7,7 +7,7 @@ use lib.ListN.{length}
 use borrow.Author.Needs.{needs}
 use Rattle.crpd.proofs.Rows.{reportable, report-is}
 use Rattle.parts.specs.Parts.{Rewritten}
-use Rattle.parts.proofs.Turns.{one-more}
+use Rattle.parts.proofs.Turns.{turn-more}
 use Rattle.parts.proofs.write.Statement.{statement}
 use Rattle.parts.proofs.write.Tie as tie
 
@@ -40,7 +40,7 @@ loop-again c =
     let at = c .before .before .before in
     let before = at .before .before .before in
     let e = report-is _ _ (before .before .responses .ensures) in
-    (omega arith, search needs, one-more (before .loop .inv .2) (rw e at (at .report .ensures .delivered)) (c .written-len .ensures))
+    (omega arith, search needs, turn-more (before .loop .inv .2) (rw e at (at .report .ensures .delivered)) (c .written-len .ensures))
 
 same-length : tie.Need-same-length Inv-loop μ-loop
 same-length c = search needs

@@ -8,11 +8,11 @@ use Rattle.report.specs.Report.{reportOf}
 use Rattle.report.proofs.report.Statement.{statement}
 use Rattle.report.proofs.report.Tie as tie
 
-slice-aggregate-put-task-lines : tie.Need-slice-aggregate-put-task-lines
-slice-aggregate-put-task-lines c = search needs
+slice-aggregate-put-response-lines : tie.Need-slice-aggregate-put-response-lines
+slice-aggregate-put-response-lines c = search needs
 
-put-task-lines-requires : tie.Need-put-task-lines-requires
-put-task-lines-requires c κs = search needs
+put-response-lines-requires : tie.Need-put-response-lines-requires
+put-response-lines-requires c κs = search needs
 
 slice-aggregate-put-verdict-line : tie.Need-slice-aggregate-put-verdict-line
 slice-aggregate-put-verdict-line c = search needs
@@ -37,15 +37,15 @@ unfolding reportOf
 returns c =
     let last = c .before .before .before .before .before .before in
     let lines = last .before .before .before in
-    let text = lines .put-task-lines .ensures .0 then last .put-verdict-line .ensures .0 in
+    let text = lines .put-response-lines .ensures .0 then last .put-verdict-line .ensures .0 in
     record { delivered = rw (text .front) at (c .before .before .deliver .ensures); short = omega (arith, text .next, last .put-verdict-line .ensures .1) }
 
 pub report-spec : {M : Type 1} → statement M
 report-spec =
     tie.close
     (tie.spec
-    slice-aggregate-put-task-lines
-    put-task-lines-requires
+    slice-aggregate-put-response-lines
+    put-response-lines-requires
     slice-aggregate-put-verdict-line
     put-verdict-line-requires
     array-share-prefix-draft

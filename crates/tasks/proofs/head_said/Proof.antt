@@ -26,7 +26,7 @@ returns c =
     let a12 = a11 .before in
     let a13 = a12 .before in
     let line = now (a13 .before .before .args .line) in
-    rw (c .value-of2 .ensures, a1 .value-of .ensures, a2 .is-value2 .ensures, a3 .is-value .ensures, a4 .goes-on2 .ensures, a5 .goes-on .ensures, a6 .is-letter .ensures, a7 .number2 .ensures, a8 .number .ensures, a9 .before4 .ensures, a10 .past2 .ensures, a11 .before3 .ensures, a12 .past .ensures, a13 .before2 .ensures, fields-are 1 line)
+    rw (c .value-of2 .ensures, a1 .value-of .ensures, a2 .is-value2 .ensures, a3 .is-value .ensures, a4 .goes-on2 .ensures, a5 .goes-on .ensures, a6 .is-letter .ensures, a7 .read-number2 .ensures, a8 .read-number .ensures, a9 .before4 .ensures, a10 .past2 .ensures, a11 .before3 .ensures, a12 .past .ensures, a13 .before2 .ensures, fields-are 1 line)
 
 pub head-said-spec : {M : Type 1} → statement M
 head-said-spec =

@@ -2,22 +2,23 @@
 -- Assumes nothing.
 use mathlib.Core.Path.{_≡_, refl, _∙_}
 use mathlib.Core.Bool.{false}
+use mathlib.Core.List.{flatMap}
 use Prim.Native.Nat.{_+_, _*_, _-_, _≤_}
 use native.Mathlib.Omega.{arith}
 use borrow.Author.Needs.{needs}
 use lib.ListN.{length, take, getD}
 use lib.Seq.{take-all}
-use Rattle.writer.specs.Text.{field, flat}
+use Rattle.writer.specs.Text.{afterTab}
 use Rattle.writer.specs.Wrote.{Wrote}
 use Rattle.writer.proofs.Writes.{_then_, nothing, reading}
 use Rattle.verdicts.specs.Verdicts.{yesNo}
-use Rattle.verdicts.proofs.Lists.{flat-take}
+use Rattle.verdicts.proofs.Lists.{flatMap-take}
 use Rattle.verdicts.proofs.Parts.{word-short}
 use Rattle.verdicts.proofs.put_verdicts.Statement.{statement}
 use Rattle.verdicts.proofs.put_verdicts.Tie as tie
 
 abbrev Inv-loop : tie.InvT-loop
-Inv-loop out₀ at told next₀ m₀ out next m = Wrote out₀ at (flat (λ yes. field (yesNo yes)) (take m (told .yes))) out next × (next ≤ at + 4 * m) × (m ≤ 6) × (length out ≡ length out₀)
+Inv-loop out₀ at told next₀ m₀ out next m = Wrote out₀ at (flatMap (λ yes. afterTab (yesNo yes)) (take m (told .yes))) out next × (next ≤ at + 4 * m) × (m ≤ 6) × (length out ≡ length out₀)
 
 abbrev μ-loop : tie.MeasureT-loop
 μ-loop out₀ at told next₀ m₀ out next m = 6 - m
@@ -26,6 +27,7 @@ six : (c : tie.Start Inv-loop μ-loop) → length (c .args .t3 .yes) ≡ 6
 six c = search needs
 
 loop-holds : tie.Need-loop-holds Inv-loop μ-loop
+unfolding flatMap
 loop-holds c = (nothing _ _, omega arith, omega arith, refl)
 
 element-copy-out-put-yes-no : tie.Need-element-copy-out-put-yes-no Inv-loop μ-loop
@@ -45,7 +47,7 @@ loop-again c =
     let wrote = c .before .before .put-yes-no in
     let at-loop = c .before .before .before .before .before .before in
     let told = at-loop .before .before .args .t3 .yes in (
-      reading (flat-take (λ yes. field (yesNo yes)) told (at-loop .loop .m) false (omega (arith, six (at-loop .before .before)))) (at-loop .loop .inv .0 then wrote .ensures),
+      reading (flatMap-take (λ yes. afterTab (yesNo yes)) told (at-loop .loop .m) false (omega (arith, six (at-loop .before .before)))) (at-loop .loop .inv .0 then wrote .ensures),
       omega (arith, wrote .ensures .next, word-short (getD told (at-loop .loop .m) false)),
       omega arith,
       wrote .kept .0 ∙ at-loop .loop .inv .3,

@@ -4,19 +4,21 @@ use mathlib.Core.List.{map}
 use Prim.Native.Nat.{_-_, _≤_}
 use native.Mathlib.Omega.{arith}
 use borrow.Author.Needs.{needs}
-use Rattle.verdicts.specs.Verdicts.{below, verdict}
+use Rattle.demand.specs.Positions.{run, fold, methods}
+use Rattle.verdicts.specs.Verdicts.{verdict}
 use Rattle.verdicts.specs.Rows.{answersIn}
 use Rattle.verdicts.proofs.Parts.{verdicts-more}
 use Rattle.verdicts.proofs.verdicts_on.Statement.{statement}
 use Rattle.verdicts.proofs.verdicts_on.Tie as tie
 
 abbrev Inv-loop : tie.InvT-loop
-Inv-loop n rows all₀ i₀ all i = (all .yes ≡ map (λ m. verdict i (answersIn rows m)) (below 6)) × (i ≤ n)
+Inv-loop n rows all₀ i₀ all i = (all .yes ≡ map (λ m. verdict i (answersIn rows m)) methods) × (i ≤ n)
 
 abbrev μ-loop : tie.MeasureT-loop
 μ-loop n rows all₀ i₀ all i = n - i
 
 loop-holds : tie.Need-loop-holds Inv-loop μ-loop
+unfolding run fold
 loop-holds c = (refl, omega arith)
 
 mul-row : tie.Need-mul-row Inv-loop μ-loop

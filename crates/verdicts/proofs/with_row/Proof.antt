@@ -8,22 +8,24 @@ use borrow.Author.Needs.{needs}
 use lib.ListN.{length, take, getD, length-set}
 use lib.Seq.{take-all}
 use Rattle.demand.specs.declared.Row.{Row}
-use Rattle.verdicts.specs.Verdicts.{below, hasResponse}
-use Rattle.verdicts.specs.Rows.{answerIn}
-use Rattle.verdicts.proofs.Lists.{filled-more}
+use Rattle.demand.specs.Positions.{run, between}
+use Rattle.verdicts.specs.Verdicts.{hasResponse}
+use Rattle.verdicts.specs.Rows.{answerUnder}
+use Rattle.verdicts.proofs.Lists.{filled-more, methods-are}
 use Rattle.verdicts.proofs.with_row.Statement.{statement}
 use Rattle.verdicts.proofs.with_row.Tie as tie
 
 abbrev told : List Bool → Row → ℕ → Bool
-told so-far row m = getD so-far m false && hasResponse (answerIn row m)
+told so-far row m = getD so-far m false && hasResponse (answerUnder row m)
 
 abbrev Inv-loop : tie.InvT-loop
-Inv-loop so-far row yes₀ m₀ yes' m = (take m yes' ≡ map (told (so-far .yes) row) (below m)) × (length yes' ≡ 6) × (m ≤ 6)
+Inv-loop so-far row yes₀ m₀ yes' m = (take m yes' ≡ map (told (so-far .yes) row) (between 0 m)) × (length yes' ≡ 6) × (m ≤ 6)
 
 abbrev μ-loop : tie.MeasureT-loop
 μ-loop so-far row yes₀ m₀ yes' m = 6 - m
 
 loop-holds : tie.Need-loop-holds Inv-loop μ-loop
+unfolding run
 loop-holds c = (refl, refl, omega arith)
 
 mul-cell : tie.Need-mul-cell Inv-loop μ-loop
@@ -62,7 +64,7 @@ returns c =
     let at-loop = c .before in
     let done : at-loop .loop .m ≡ 6 = omega arith in
     let whole : length (at-loop .loop .yes) ≤ 6 = omega arith in
-    sym (take-all 6 (at-loop .loop .yes) whole) ∙ (rw done at (at-loop .loop .inv .0))
+    sym (take-all 6 (at-loop .loop .yes) whole) ∙ (rw (done, methods-are) at (at-loop .loop .inv .0))
 
 pub with-row-spec : {M : Type 1} → statement M
 with-row-spec =

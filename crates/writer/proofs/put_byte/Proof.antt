@@ -1,6 +1,6 @@
 -- `writer::put_byte` meets its contract: one store is a write of one byte. Assumes nothing.
 use borrow.Author.Needs.{needs}
-use Rattle.writer.proofs.Writes.{one}
+use Rattle.writer.proofs.Writes.{one-byte}
 use Rattle.writer.proofs.put_byte.Statement.{statement}
 use Rattle.writer.proofs.put_byte.Tie as tie
 
@@ -14,7 +14,7 @@ same-length : tie.Need-same-length
 same-length c = search needs
 
 returns : tie.Need-returns
-returns c = one (c .args .out .now) (c .args .at) (c .args .b) (c .pre)
+returns c = one-byte (c .args .out .now) (c .args .at) (c .args .b) (c .pre)
 
 pub put-byte-spec : {M : Type 1} → statement M
 put-byte-spec = tie.close (tie.spec slice-write-out add-result same-length returns)

@@ -6,7 +6,7 @@ use native.Mathlib.Nat.{add-zero}
 use native.Mathlib.Omega.{arith}
 use lib.ListN.{length, take, length-set}
 use Rattle.writer.specs.Wrote.{Wrote}
-use Rattle.writer.proofs.Writes.{nothing, one-more, all}
+use Rattle.writer.proofs.Writes.{nothing, one-more, whole-text}
 use Rattle.writer.proofs.put_bytes.Statement.{statement}
 use Rattle.writer.proofs.put_bytes.Tie as tie
 
@@ -46,7 +46,7 @@ same-length : tie.Need-same-length Inv-loop μ-loop
 same-length c = c .before .loop .inv .2
 
 returns : tie.Need-returns Inv-loop μ-loop
-returns c = all (c .loop-test .left) (c .before .loop .inv .0)
+returns c = whole-text (c .loop-test .left) (c .before .loop .inv .0)
 
 pub put-bytes-spec : {M : Type 1} → statement M
 put-bytes-spec =

@@ -4,11 +4,11 @@ use Prim.Native.Nat.{_≤_}
 use native.Mathlib.Omega.{arith}
 use borrow.Author.Needs.{needs}
 use lib.ListN.{length}
-use Rattle.writer.specs.Text.{spelled, field}
+use Rattle.text.proofs.Parts.{up-to-fits}
+use Rattle.tasks.specs.Tasks.{limitOf}
+use Rattle.writer.specs.Text.{spelled, afterTab}
 use Rattle.writer.proofs.Spelling.{spelled-short}
 use Rattle.writer.proofs.Writes.{_then_, reading}
-use Rattle.report.specs.Report.{limitOf}
-use Rattle.report.proofs.Parts.{up-to-short}
 use Rattle.report.proofs.lines.put_head.Statement.{statement}
 use Rattle.report.proofs.lines.put_head.Tie as tie
 
@@ -19,7 +19,7 @@ twelve c = search needs
 named : (c : tie.After-before2) → length (c .before2 .result .now) ≤ 12
 named c =
     let start = c .before .before .before .before .before .before .before .before .before in
-    omega (arith, ap length (c .before2 .ensures), up-to-short 0 (start .args .task .name .bytes), twelve start)
+    omega (arith, ap length (c .before2 .ensures), up-to-fits 0 (start .args .task .name .bytes), twelve start)
 
 limited : (c : tie.Start) → length (spelled (limitOf (c .args .task))) ≤ 9
 limited c = spelled-short 8 (limitOf (c .args .task)) (omega arith)
@@ -53,7 +53,7 @@ returns c =
     let name = limit .before .before .before .before .before in
     let letter = name .before .before .before .before .before .before in
     let start = letter .before .before .before .before in
-    let named-field = reading (ap field (name .before .before2 .ensures)) (name .put-field .ensures) in (
+    let named-field = reading (ap afterTab (name .before .before2 .ensures)) (name .put-field .ensures) in (
       letter .put-byte .ensures then named-field then limit .put-number-field .ensures,
       omega (arith, letter .put-byte .ensures .next, name .put-field .ensures .next, limit .put-number-field .ensures .next, named (name .before), limited start),
     )

@@ -4,13 +4,13 @@ use mathlib.Core.Bool.{true, _&&_, and-eq-true-iff}
 use lib.Dec.{eqb}
 use borrow.Author.Tests.{eqb-true}
 use Rattle.sets.specs.declared.CacheSet.{CacheSet}
-use Rattle.sets.specs.Words.{bitsOf, number, members}
+use Rattle.sets.specs.Words.{bitsOf, numberOf, members}
 use Rattle.sets.proofs.CacheSet.equals.Statement.{statement}
 use Rattle.sets.proofs.CacheSet.equals.Tie as tie
 
 same-words : (a b : CacheSet) → (eqb (a .w0) (b .w0) && eqb (a .w1) (b .w1) && eqb (a .w2) (b .w2) && eqb (a .w3) (b .w3)) ≡ true
     → members a ≡ members b
-unfolding members number
+unfolding members numberOf
 same-words a b t =
     let p = and-eq-true-iff _ _ .0 t in
     let q = and-eq-true-iff _ _ .0 (p .0) in

@@ -1,11 +1,11 @@
--- `report::lines::put_task_line` meets its contract: three writes, one after the other. Assumes nothing.
+-- `report::lines::put_response_line` meets its contract: three writes, one after the other. Assumes nothing.
 use native.Mathlib.Omega.{arith}
 use borrow.Author.Needs.{needs}
 use Rattle.writer.proofs.Writes.{_then_, reading}
-use Rattle.verdicts.specs.Rows.{answerIn}
-use Rattle.report.proofs.Parts.{task-parts}
-use Rattle.report.proofs.lines.put_task_line.Statement.{statement}
-use Rattle.report.proofs.lines.put_task_line.Tie as tie
+use Rattle.verdicts.specs.Rows.{answerUnder}
+use Rattle.report.proofs.Parts.{response-parts}
+use Rattle.report.proofs.lines.put_response_line.Statement.{statement}
+use Rattle.report.proofs.lines.put_response_line.Tie as tie
 
 put-head-requires : tie.Need-put-head-requires
 put-head-requires c κs = search needs
@@ -25,9 +25,9 @@ returns c =
     let answers = end .before .before .before .before in
     let head = answers .before .before .before .before in
     let start = head .before .before .before in
-    (reading (task-parts (start .args .task) (answerIn (start .args .row))) (head .put-head .ensures .0 then answers .put-answers .ensures .0 then end .put-byte .ensures), omega arith)
+    (reading (response-parts (start .args .task) (answerUnder (start .args .row))) (head .put-head .ensures .0 then answers .put-answers .ensures .0 then end .put-byte .ensures), omega arith)
 
-pub put-task-line-spec : {M : Type 1} → statement M
-put-task-line-spec =
+pub put-response-line-spec : {M : Type 1} → statement M
+put-response-line-spec =
     tie.close
     (tie.spec put-head-requires put-answers-requires put-byte-requires same-length returns)

@@ -1,25 +1,25 @@
--- `report::lines::put_task_lines` meets its contract. The loop's invariant: the lines of the tasks below i are written, in at most 85 bytes each.
+-- `report::lines::put_response_lines` meets its contract. The loop's invariant: the lines of the tasks below i are written, in at most 85 bytes each.
 -- Assumes nothing.
 use mathlib.Core.Path.{_≡_, refl, _∙_}
+use mathlib.Core.List.{flatMap}
 use Prim.Native.Nat.{_*_, _-_, _≤_, _<_}
 use native.Mathlib.Omega.{arith}
 use borrow.Author.Needs.{needs}
 use lib.ListN.{length, getD}
 use lib.Seq.{getD-take}
+use Rattle.demand.specs.Positions.{run, between}
 use Rattle.tasks.specs.Tasks.{blank}
 use Rattle.table.specs.Tasks.{at}
-use Rattle.writer.specs.Text.{flat}
 use Rattle.writer.specs.Wrote.{Wrote}
 use Rattle.writer.proofs.Writes.{_then_, nothing, reading}
-use Rattle.verdicts.specs.Verdicts.{below}
-use Rattle.report.specs.Report.{taskLine}
+use Rattle.report.specs.Report.{responseLine}
 use Rattle.verdicts.specs.Rows.{answersIn}
-use Rattle.verdicts.proofs.Lists.{flat-more}
-use Rattle.report.proofs.lines.put_task_lines.Statement.{statement}
-use Rattle.report.proofs.lines.put_task_lines.Tie as tie
+use Rattle.verdicts.proofs.Lists.{flatMap-more}
+use Rattle.report.proofs.lines.put_response_lines.Statement.{statement}
+use Rattle.report.proofs.lines.put_response_lines.Tie as tie
 
 abbrev Inv-loop : tie.InvT-loop
-Inv-loop out₀ table rows n next₀ i₀ out next i = Wrote out₀ 0 (flat (λ k. taskLine (at table k) (λ m. answersIn rows m k)) (below i)) out next × (next ≤ 85 * i) × (i ≤ n) × (length out ≡ length out₀)
+Inv-loop out₀ table rows n next₀ i₀ out next i = Wrote out₀ 0 (flatMap (λ k. responseLine (at table k) (λ m. answersIn rows m k)) (between 0 i)) out next × (next ≤ 85 * i) × (i ≤ n) × (length out ≡ length out₀)
 
 abbrev μ-loop : tie.MeasureT-loop
 μ-loop out₀ table rows n next₀ i₀ out next i = n - i
@@ -33,6 +33,7 @@ inside : (c : tie.In-loop Inv-loop μ-loop) → c .before .loop .i < 32
 inside c = omega (arith, c .before .before .before .pre .1 .accepted .few)
 
 loop-holds : tie.Need-loop-holds Inv-loop μ-loop
+unfolding run flatMap
 loop-holds c = (nothing _ _, omega arith, omega arith, refl)
 
 mul-task : tie.Need-mul-task Inv-loop μ-loop
@@ -47,8 +48,8 @@ mul-row c = search needs
 array-copy-out-row : tie.Need-array-copy-out-row Inv-loop μ-loop
 array-copy-out-row c = omega (arith, inside (c .before))
 
-put-task-line-requires : tie.Need-put-task-line-requires Inv-loop μ-loop
-put-task-line-requires c κs =
+put-response-line-requires : tie.Need-put-response-line-requires Inv-loop μ-loop
+put-response-line-requires c κs =
     let in-loop = c .before .before .before in
     let at-loop = in-loop .before in
     let asked = at-loop .before .before .pre .1 in
@@ -63,11 +64,11 @@ loop-less c = search needs
 
 loop-again : tie.Need-loop-again Inv-loop μ-loop
 loop-again c =
-    let wrote = c .before .before .put-task-line in
+    let wrote = c .before .before .put-response-line in
     let in-loop = c .before .before .before .before .before .before in
     let at-loop = in-loop .before in
     let a = at-loop .before .before .args in (
-      reading (flat-more (λ k. taskLine (at (a .t2) k) (λ m. answersIn (a .t3) m k)) (at-loop .loop .i)) (at-loop .loop .inv .0 then (rw (← task-at in-loop) at (wrote .ensures .0))),
+      reading (flatMap-more (λ k. responseLine (at (a .t2) k) (λ m. answersIn (a .t3) m k)) (at-loop .loop .i)) (at-loop .loop .inv .0 then (rw (← task-at in-loop) at (wrote .ensures .0))),
       omega (arith, wrote .ensures .1),
       omega arith,
       wrote .kept .0 ∙ at-loop .loop .inv .3,
@@ -83,8 +84,8 @@ returns c =
     let done : at-loop .loop .i ≡ start .args .t2 .count = omega arith in
     (rw done at (at-loop .loop .inv .0), omega (arith, start .pre .1 .accepted .few))
 
-pub put-task-lines-spec : {M : Type 1} → statement M
-put-task-lines-spec =
+pub put-response-lines-spec : {M : Type 1} → statement M
+put-response-lines-spec =
     tie.close
     (tie.spec
     Inv-loop
@@ -94,7 +95,7 @@ put-task-lines-spec =
     element-copy-out-task
     mul-row
     array-copy-out-row
-    put-task-line-requires
+    put-response-line-requires
     add-i
     loop-less
     loop-again

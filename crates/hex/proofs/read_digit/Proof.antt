@@ -1,10 +1,10 @@
--- `hex::digit_of` meets its contract. Assumes nothing.
+-- `hex::read_digit` meets its contract. Assumes nothing.
 use native.Mathlib.Omega.{arith}
 use borrow.Author.Tests.{le-leb, lt-leb}
 use Rattle.hex.specs.Hex.{hexDigit}
 use borrow.Author.Needs.{needs}
-use Rattle.hex.proofs.digit_of.Statement.{statement}
-use Rattle.hex.proofs.digit_of.Tie as tie
+use Rattle.hex.proofs.read_digit.Statement.{statement}
+use Rattle.hex.proofs.read_digit.Tie as tie
 
 cast-t5 : tie.Need-cast-t5
 cast-t5 c = search needs
@@ -35,6 +35,6 @@ returns-5 : tie.Need-returns-5
 unfolding hexDigit
 returns-5 c = let b = c .before .before .before .before .args .b in simp (le-leb 48 b (omega arith), lt-leb b 57 (omega arith), le-leb 97 b (omega arith), lt-leb b 102 (omega arith))
 
-pub digit-of-spec : {M : Type 1} → statement M
-digit-of-spec =
+pub read-digit-spec : {M : Type 1} → statement M
+read-digit-spec =
     tie.close (tie.spec cast-t5 add-t7 cast-t8 returns returns-2 returns-3 returns-4 returns-5)

@@ -1,4 +1,4 @@
--- `hex::words_of` meets its contract. Word by word, reading on from the number so far gives what the whole field gives.
+-- `hex::read_words` meets its contract. Word by word, reading on from the number so far gives what the whole field gives.
 -- Assumes nothing.
 use Prim.Native.Nat.{ℕ, _+_, _-_, _*_, _^_}
 use mathlib.Core.Path.{_≡_, sym, ap, _∙_, subst}
@@ -10,8 +10,8 @@ use borrow.Author.Needs.{needs}
 use Rattle.hex.specs.Hex.{wordSays}
 use Rattle.hex.specs.declared.Word.{Word}
 use Rattle.hex.proofs.HexLaws.{Reading, begin, ended, at-most-sixteen, no-word, word-more}
-use Rattle.hex.proofs.words_of.Statement.{statement}
-use Rattle.hex.proofs.words_of.Tie as tie
+use Rattle.hex.proofs.read_words.Statement.{statement}
+use Rattle.hex.proofs.read_words.Tie as tie
 
 -- ---- the field and where it is cut
 
@@ -56,53 +56,53 @@ number1 c = number2 (c .before .before .before .before .before) * 2 ^ 64 + c .be
 read-w3 : (c : tie.After-known-told) → Reading (bytes (at-w3 c)) (number3 c) (to-w3 (at-w3 c))
 read-w3 c =
     subst (λ (n : ℕ). Reading (bytes (at-w3 c)) n (to-w3 (at-w3 c))) (omega arith)
-    (word-more (begin (bytes (at-w3 c))) (cuts (at-w3 c) .0) (search needs) _ (said (c .before .before .before .word-of .ensures) (c .before .w3 .given .1)))
+    (word-more (begin (bytes (at-w3 c))) (cuts (at-w3 c) .0) (search needs) _ (said (c .before .before .before .read-word .ensures) (c .before .w3 .given .1)))
 
 read-w2 : (c : tie.After-known-told2) → Reading (bytes (at-w2 c)) (number2 c) (to-w2 (at-w2 c))
 read-w2 c =
     word-more (read-w3 (c .before .before .before .before .before)) (cuts (at-w2 c) .1) (search needs) _
-    (said (c .before .before .before .word-of2 .ensures) (c .before .w2 .given .1))
+    (said (c .before .before .before .read-word2 .ensures) (c .before .w2 .given .1))
 
 read-w1 : (c : tie.After-known-told3) → Reading (bytes (at-w1 c)) (number1 c) (to-w1 (at-w1 c))
 read-w1 c =
     word-more (read-w2 (c .before .before .before .before .before)) (cuts (at-w1 c) .2) (search needs) _
-    (said (c .before .before .before .word-of3 .ensures) (c .before .w1 .given .1))
+    (said (c .before .before .before .read-word3 .ensures) (c .before .w1 .given .1))
 
 -- ---- the answers
 
 returns : tie.Need-returns
 returns c =
     let s = c .before .before .before .before in
-    sym (no-word (begin (bytes s)) (cuts s .0) (search needs) (said (c .before .before .word-of .ensures) (c .enum-told .given .1)))
+    sym (no-word (begin (bytes s)) (cuts s .0) (search needs) (said (c .before .before .read-word .ensures) (c .enum-told .given .1)))
 
 returns-2 : tie.Need-returns-2
 returns-2 c =
     let r = c .before .before .before .before in
-    sym (no-word (read-w3 r) (cuts (at-w3 r) .1) (search needs) (said (c .before .before .word-of2 .ensures) (c .enum-told2 .given .1)))
+    sym (no-word (read-w3 r) (cuts (at-w3 r) .1) (search needs) (said (c .before .before .read-word2 .ensures) (c .enum-told2 .given .1)))
 
 returns-3 : tie.Need-returns-3
 returns-3 c =
     let r = c .before .before .before .before in
-    sym (no-word (read-w2 r) (cuts (at-w2 r) .2) (search needs) (said (c .before .before .word-of3 .ensures) (c .enum-told3 .given .1)))
+    sym (no-word (read-w2 r) (cuts (at-w2 r) .2) (search needs) (said (c .before .before .read-word3 .ensures) (c .enum-told3 .given .1)))
 
-word-of-requires-4 : tie.Need-word-of-requires-4
-word-of-requires-4 c κs =
+read-word-requires-4 : tie.Need-read-word-requires-4
+read-word-requires-4 c κs =
     let s = at-w1 (c .before) in
     at-most-sixteen (bytes s) (to-w1 s) (length (bytes s)) (cuts s .3)
 
 returns-4 : tie.Need-returns-4
 returns-4 c =
     let r = c .before .before .before .before in
-    sym (no-word (read-w1 r) (cuts (at-w1 r) .3) (search needs) (said (c .before .before .word-of4 .ensures) (c .enum-told4 .given .1)))
+    sym (no-word (read-w1 r) (cuts (at-w1 r) .3) (search needs) (said (c .before .before .read-word4 .ensures) (c .enum-told4 .given .1)))
 
 returns-5 : tie.Need-returns-5
 returns-5 c =
     let r = c .before .before .before .before .before in
-    let all = word-more (read-w1 r) (cuts (at-w1 r) .3) (search needs) _ (said (c .before .before .before .word-of4 .ensures) (c .before .w0 .given .1)) in
+    let all = word-more (read-w1 r) (cuts (at-w1 r) .3) (search needs) _ (said (c .before .before .before .read-word4 .ensures) (c .before .w0 .given .1)) in
     sym (ended all (search needs))
 
-pub words-of-spec : {M : Type 1} → statement M
-words-of-spec =
+pub read-words-spec : {M : Type 1} → statement M
+read-words-spec =
     tie.close
     (tie.spec
     (λ c κs. search needs)
@@ -132,7 +132,7 @@ words-of-spec =
     (λ c. search needs)
     (λ c. search needs)
     (λ c. search needs)
-    word-of-requires-4
+    read-word-requires-4
     (λ c. search needs)
     (λ c. search needs)
     returns-4

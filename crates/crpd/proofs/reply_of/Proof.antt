@@ -1,8 +1,8 @@
--- `crpd::answer_of` meets its contract.
+-- `crpd::reply_of` meets its contract.
 -- Assumes nothing.
 use borrow.Author.Needs.{needs}
-use Rattle.crpd.proofs.answer_of.Statement.{statement}
-use Rattle.crpd.proofs.answer_of.Tie as tie
+use Rattle.crpd.proofs.reply_of.Statement.{statement}
+use Rattle.crpd.proofs.reply_of.Tie as tie
 
 enum-known-response : tie.Need-enum-known-response
 enum-known-response c = search needs
@@ -16,5 +16,5 @@ returns c = cc
 returns-2 : tie.Need-returns-2
 returns-2 c = search needs
 
-pub answer-of-spec : {M : Type 1} → statement M
-answer-of-spec = tie.close (tie.spec enum-known-response enum-told returns returns-2)
+pub reply-of-spec : {M : Type 1} → statement M
+reply-of-spec = tie.close (tie.spec enum-known-response enum-told returns returns-2)
