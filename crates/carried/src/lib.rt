@@ -124,7 +124,8 @@ pub fn weigh_row(board: &[u64], i: usize, ledger: &mut [u64; 352], weights: &mut
     let useful = marks.size();
     for j in 0..i {
         let above = CacheSet::at(ledger, j);
-        let next = gather(gathered_for(ledger, j), marks, useful, above);
+        let gathered = gathered_for(ledger, j);
+        let next = gather(gathered, marks, useful, above);
         keep(ledger, j, next);
         let work = Ticks(board[WORKS + j]);
         let evictor = CacheSet::at(board, ECBS + j);
