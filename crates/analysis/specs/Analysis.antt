@@ -48,7 +48,7 @@ abbrev pub rowsOf : Table → List Row
 rowsOf table = front noRow (rowOf table) (table .count)
 
 -- what a call is to be handed: an accepted table, a method up to `last` and a task's position
-pub record Asked (last : ℕ) (table : Table) (m i : ℕ) : Type 0 where
+pub record Answerable (last : ℕ) (table : Table) (m i : ℕ) : Type 0 where
   pub method : m ≤ last
   pub held : i < table .count
   pub accepted : AcceptedTable table

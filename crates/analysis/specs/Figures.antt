@@ -13,8 +13,8 @@ abbrev ticks : ℕ → Ticks
 ticks n = record { 0 = n }
 
 -- the sets that one word says
-abbrev set : ℕ → CacheSet
-set w = record { w0 = w; w1 = 0; w2 = 0; w3 = 0 }
+abbrev oneWord : ℕ → CacheSet
+oneWord w = record { w0 = w; w1 = 0; w2 = 0; w3 = 0 }
 
 -- C, T, D, J, B, UCB, ECB
 abbrev task : ℕ → ℕ → ℕ → ℕ → ℕ → ℕ → ℕ → Task
@@ -25,8 +25,8 @@ task c t d j b u e = record {
   deadline = ticks d;
   jitter = ticks j;
   blocking = ticks b;
-  ucb = set u;
-  ecb = set e;
+  ucb = oneWord u;
+  ecb = oneWord e;
 }
 
 -- sets, BRT, tasks
@@ -54,21 +54,21 @@ pub record Figure : Type 0 where
   pub position : ℕ
   pub answer : Response
 
-abbrev at : Table → ℕ → ℕ → ℕ → Figure
-at table m i r = record { table = table; method = m; position = i; answer = Within (ticks r) }
+abbrev answers : Table → ℕ → ℕ → ℕ → Figure
+answers table m i r = record { table = table; method = m; position = i; answer = Within (ticks r) }
 
-abbrev none : Table → ℕ → ℕ → Figure
-none table m i = record { table = table; method = m; position = i; answer = Unschedulable }
+abbrev noAnswer : Table → ℕ → ℕ → Figure
+noAnswer table m i = record { table = table; method = m; position = i; answer = Unschedulable }
 
 abbrev pub figures : List Figure
 figures =
-    at (A 60) 3 2 11 ∷ at (A 60) 4 2 9 ∷ at (A 60) 5 2 9
-    ∷ at (A 9) 5 2 9 ∷ none (A 8) 5 2
-    ∷ at (B 60) 3 2 9 ∷ at (B 60) 4 2 11 ∷ at (B 60) 5 2 9
-    ∷ none (B 10) 4 2 ∷ at (B 10) 5 2 9
-    ∷ at M 3 2 11 ∷ at M 4 2 11 ∷ at M 5 2 11
-    ∷ at (P 0 8 0 0) 0 1 5 ∷ at (P 0 6 0 0) 0 1 5
-    ∷ at (P 1 8 0 0) 0 1 7 ∷ none (P 1 7 1 0) 0 1
-    ∷ at (P 0 8 0 1) 0 1 8
-    ∷ none (P 0 8 8 0) 0 1
+    answers (A 60) 3 2 11 ∷ answers (A 60) 4 2 9 ∷ answers (A 60) 5 2 9
+    ∷ answers (A 9) 5 2 9 ∷ noAnswer (A 8) 5 2
+    ∷ answers (B 60) 3 2 9 ∷ answers (B 60) 4 2 11 ∷ answers (B 60) 5 2 9
+    ∷ noAnswer (B 10) 4 2 ∷ answers (B 10) 5 2 9
+    ∷ answers M 3 2 11 ∷ answers M 4 2 11 ∷ answers M 5 2 11
+    ∷ answers (P 0 8 0 0) 0 1 5 ∷ answers (P 0 6 0 0) 0 1 5
+    ∷ answers (P 1 8 0 0) 0 1 7 ∷ noAnswer (P 1 7 1 0) 0 1
+    ∷ answers (P 0 8 0 1) 0 1 8
+    ∷ noAnswer (P 0 8 8 0) 0 1
     ∷ []

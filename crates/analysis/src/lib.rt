@@ -12,7 +12,7 @@ ghost use Rattle.demand.specs.Demand.{demandOf};
 ghost use Rattle.demand.specs.Terms.{termIn, Handed};
 ghost use Rattle.demand.specs.Least.{leastOf};
 ghost use Rattle.board.specs.Board.{ownOn, limitOn, Lent};
-ghost use Rattle.analysis.specs.Analysis.{answerOn, withCombined, responseOf, Asked};
+ghost use Rattle.analysis.specs.Analysis.{answerOn, withCombined, responseOf, Answerable};
 
 // The answer for the task at i of a board by a list of the weights of those above it.
 fn by_weights(board: &[u64], weights: &[u64], i: usize) -> Response
@@ -54,7 +54,7 @@ fn answer(board: &[u64], method: u64, i: usize) -> Response
 
 // The response of the task at i under one of the methods 0 to 5.
 pub fn respond(table: Table, method: u64, i: usize) -> Response
-    requires { ⌜ Asked 5 table method i ⌝ }
+    requires { ⌜ Answerable 5 table method i ⌝ }
     ensures { λ r. ⌜ r ≡ responseOf table method i ⌝ }
 {
     let mut board = [0u64; 417];

@@ -15,13 +15,13 @@ use Rattle.sets.proofs.WordLaws.{members-empty}
 use Rattle.sets.proofs.StoredLaws.{stored-long, stored-same, stored-other, stored-beside, held-beside}
 use Rattle.tasks.specs.Tasks.{noSets}
 use Rattle.demand.specs.Positions.{hp}
-use Rattle.demand.proofs.PositionLaws.{none, next}
+use Rattle.demand.proofs.PositionLaws.{fold-none, fold-next}
 use Rattle.board.specs.Board.{workOn, brtOn, ucbOn, ecbOn}
 use Rattle.carried.specs.declared.Gathered.{Gathered}
 use Rattle.costs.specs.Gather.{aff, unionOf, largestOf}
 use Rattle.costs.specs.Costs.{reloadCounts, reloadsOf, weightOn}
 use Rattle.costs.proofs.CostLaws.{largest-most}
-use Rattle.carried.specs.Carried.{Next, Carried, Small, countsOf, aboveOn, allAt, evictingOn, mostAt, sharedAt, gatheredOn, gatheredPut}
+use Rattle.carried.specs.Carried.{Next, Carried, Small, reloadCountsOf, aboveOn, allAt, evictingOn, mostAt, sharedAt, gatheredOn, gatheredPut}
 use Rattle.carried.specs.Carried.{Column, Ledger, Passing, Put, InPair}
 use Rattle.carried.proofs.PutLaws.{put-as}
 
@@ -31,17 +31,17 @@ module _ (U : ℕ → Set) (above : Set) (j : ℕ) where
   -- nothing, before the row below it
   carried-none : Carried U above j (j + 1) (record { most = record { 0 = 0 }; all = noSets; shared = record { 0 = 0 } })
   carried-none = record {
-    most = sym (none max 0 (λ k. size (U k)) (j + 1));
-    all = members-empty ∙ sym (none _∪_ ∅ U (j + 1));
-    shared = sym (none max 0 (λ k. size (U k ∩ above)) (j + 1));
+    most = sym (fold-none max 0 (λ k. size (U k)) (j + 1));
+    all = members-empty ∙ sym (fold-none _∪_ ∅ U (j + 1));
+    shared = sym (fold-none max 0 (λ k. size (U k ∩ above)) (j + 1));
   }
 
   -- one row further
   pub carried-next : (i : ℕ) (g r : Gathered) (ucb : Set) → j < i → ucb ≡ U i → Carried U above j i g → Next g ucb above r → Carried U above j (i + 1) r
   carried-next i g r ucb h e c n = record {
-    most = n .most ∙ next max 0 (λ k. size (U k)) (j + 1) i _ _ (omega arith) (c .most) (ap size e);
-    all = n .all ∙ next _∪_ ∅ U (j + 1) i _ _ (omega arith) (c .all) e;
-    shared = n .shared ∙ next max 0 (λ k. size (U k ∩ above)) (j + 1) i _ _ (omega arith) (c .shared) (ap (λ (A : Set). size (A ∩ above)) e);
+    most = n .most ∙ fold-next max 0 (λ k. size (U k)) (j + 1) i _ _ (omega arith) (c .most) (ap size e);
+    all = n .all ∙ fold-next _∪_ ∅ U (j + 1) i _ _ (omega arith) (c .all) e;
+    shared = n .shared ∙ fold-next max 0 (λ k. size (U k ∩ above)) (j + 1) i _ _ (omega arith) (c .shared) (ap (λ (A : Set). size (A ∩ above)) e);
   }
 
   pub carried-small : (i : ℕ) (g : Gathered) → Carried U above j i g → Small g
@@ -52,7 +52,7 @@ module _ (U : ℕ → Set) (above : Set) (j : ℕ) where
 
   -- the counts of a row
   counted : (E : ℕ → Set) (ecb : Set) (i : ℕ) (g : Gathered) → Carried U above j (i + 1) g → ecb ≡ E j → above ≡ unionOf E (hp (j + 1))
-      → countsOf ecb g ≡ reloadCounts U E i j
+      → reloadCountsOf ecb g ≡ reloadCounts U E i j
   counted E ecb i g c e f =
       let m = c .most in
       let a = c .all in
@@ -186,7 +186,7 @@ module _ (board l : List ℕ) (i : ℕ) (all : CacheSet) (n : ℕ) (few : i < 32
 -- those of one task
 pub pair-weighed : (board : List ℕ) (i j : ℕ) (evicting : Set) (g : Gathered) {x y : List ℕ}
     → Carried (ucbOn board) (unionOf (ecbOn board) (hp (j + 1))) j (i + 1) g → evicting ≡ ecbOn board j
-    → Put (InPair j 5) (λ m _. workOn board j + brtOn board * getD (countsOf evicting g) m 0) x y
+    → Put (InPair j 5) (λ m _. workOn board j + brtOn board * getD (reloadCountsOf evicting g) m 0) x y
     → Put (InPair j 5) (λ m b. weightOn board m i b) x y
 unfolding reloadsOf
 pair-weighed board i j evicting g c e p =

@@ -10,7 +10,7 @@ use lib.Seq.{getD-set-same, getD-set-other}
 use Rattle.sets.specs.Sets.{Set, _∩_, size}
 use Rattle.sets.specs.Words.{members}
 use Rattle.carried.specs.declared.Gathered.{Gathered}
-use Rattle.carried.specs.Carried.{countsOf, place, Put, InPair, InRow}
+use Rattle.carried.specs.Carried.{reloadCountsOf, weightAt, Put, InPair, InRow}
 
 put-none : (I : ℕ → ℕ → Type 0) (w : ℕ → ℕ → ℕ) (x : List ℕ) → length x ≡ 160 → ((m b : ℕ) → I m b → ⊥) → Put I w x x
 put-none I w x long empty = record { long = long; each = λ m b p. absurd (empty m b p); others = λ p n. refl }
@@ -26,32 +26,32 @@ record Joins (I J K : ℕ → ℕ → Type 0) : Type 0 where
   apart : (m b : ℕ) → I m b → J m b → ⊥
   room : (m b : ℕ) → K m b → b < 32
 
-place-same : (m b n d : ℕ) → b < 32 → d < 32 → place m b ≡ place n d → (n ≡ m) × (d ≡ b)
-place-same m b n d h k e = (omega arith, omega arith)
+weight-at-same : (m b n d : ℕ) → b < 32 → d < 32 → weightAt m b ≡ weightAt n d → (n ≡ m) × (d ≡ b)
+weight-at-same m b n d h k e = (omega arith, omega arith)
 
 module _ {I J K : ℕ → ℕ → Type 0} (joins : Joins I J K) where
   put-then : {w : ℕ → ℕ → ℕ} {x y z : List ℕ} → Put I w x y → Put J w y z → Put K w x z
   put-then {w} {x} {y} {z} p q = record {
     long = q .long;
-    each = λ m b k. ⊎-elim (λ i. q .others (place m b) (off m b i) ∙ p .each m b i) (λ j. q .each m b j) (joins .split m b k);
+    each = λ m b k. ⊎-elim (λ i. q .others (weightAt m b) (off m b i) ∙ p .each m b i) (λ j. q .each m b j) (joins .split m b k);
     others = λ n out. q .others n (λ m b j e. out m b (joins .right m b j) e) ∙ p .others n (λ m b i e. out m b (joins .left m b i) e);
   }
     where
-      off : (m b : ℕ) → I m b → (n d : ℕ) → J n d → place m b ≡ place n d → ⊥
+      off : (m b : ℕ) → I m b → (n d : ℕ) → J n d → weightAt m b ≡ weightAt n d → ⊥
       off m b i n d j e =
-          let t = place-same m b n d (joins .room m b (joins .left m b i)) (joins .room n d (joins .right n d j)) e in
+          let t = weight-at-same m b n d (joins .room m b (joins .left m b i)) (joins .room n d (joins .right n d j)) e in
           joins .apart m b i (rw (t .0, t .1) at j)
 
 -- one number put in
 Single : ℕ → ℕ → ℕ → ℕ → Type 0
 Single n j m b = (m ≡ n) × (b ≡ j)
 
-single-put : {w : ℕ → ℕ → ℕ} (x y : List ℕ) (n j v : ℕ) → length x ≡ 160 → n ≤ 4 → j < 32 → y ≡ set x (place n j) v → v ≡ w n j → Put (Single n j) w x y
+single-put : {w : ℕ → ℕ → ℕ} (x y : List ℕ) (n j v : ℕ) → length x ≡ 160 → n ≤ 4 → j < 32 → y ≡ set x (weightAt n j) v → v ≡ w n j → Put (Single n j) w x y
 unfolding Single
 single-put {w} x y n j v long h k e q = record {
   long = ap length e ∙ simp length-set long;
-  each = λ m b s. rw (s .0, s .1, e) (getD-set-same x (place n j) v 0 (omega arith) ∙ q);
-  others = λ p out. rw e (getD-set-other x (place n j) p v 0 (out n j (refl, refl)));
+  each = λ m b s. rw (s .0, s .1, e) (getD-set-same x (weightAt n j) v 0 (omega arith) ∙ q);
+  others = λ p out. rw e (getD-set-other x (weightAt n j) p v 0 (out n j (refl, refl)));
 }
 
 -- a task: one method more
@@ -67,19 +67,19 @@ module _ (j : ℕ) (column : j < 32) where
   }
 
   pair-next : {w : ℕ → ℕ → ℕ} {x y : List ℕ} (n : ℕ) → n ≤ 4 → Put (InPair j n) w x y
-      → (z : List ℕ) (v : ℕ) → z ≡ set y (place n j) v → v ≡ w n j → Put (InPair j (n + 1)) w x z
+      → (z : List ℕ) (v : ℕ) → z ≡ set y (weightAt n j) v → v ≡ w n j → Put (InPair j (n + 1)) w x z
   pair-next {y = y} n h p z v e q = put-then (pair-joins n) p (single-put y z n j v (p .long) h column e q)
 
   -- the five weights of the code
   pub pair-put : (u v x y z s : List ℕ) (work brt evicting hit : ℕ) (ecb : Set) (g : Gathered) → length u ≡ 160
-      → v ≡ set u (place 0 j) (work + brt * 0)
-      → x ≡ set v (place 1 j) (work + brt * evicting) → evicting ≡ size ecb
-      → y ≡ set x (place 2 j) (work + brt * g .most .0)
-      → z ≡ set y (place 3 j) (work + brt * hit) → hit ≡ size (members (g .all) ∩ ecb)
-      → s ≡ set z (place 4 j) (work + brt * g .shared .0)
-      → Put (InPair j 5) (λ m _. work + brt * getD (countsOf ecb g) m 0) u s
+      → v ≡ set u (weightAt 0 j) (work + brt * 0)
+      → x ≡ set v (weightAt 1 j) (work + brt * evicting) → evicting ≡ size ecb
+      → y ≡ set x (weightAt 2 j) (work + brt * g .most .0)
+      → z ≡ set y (weightAt 3 j) (work + brt * hit) → hit ≡ size (members (g .all) ∩ ecb)
+      → s ≡ set z (weightAt 4 j) (work + brt * g .shared .0)
+      → Put (InPair j 5) (λ m _. work + brt * getD (reloadCountsOf ecb g) m 0) u s
   pair-put u v x y z s work brt evicting hit ecb g long e0 e1 q1 e2 e3 q3 e4 =
-      let w : ℕ → ℕ → ℕ = λ m _. work + brt * getD (countsOf ecb g) m 0 in
+      let w : ℕ → ℕ → ℕ = λ m _. work + brt * getD (reloadCountsOf ecb g) m 0 in
       let p0 : Put (InPair j 0) w u u = put-none _ _ u long (λ m b p. omega arith) in
       let p1 : Put (InPair j 1) w u v = pair-next 0 (omega arith) p0 v _ e0 refl in
       let p2 : Put (InPair j 2) w u x = pair-next 1 (omega arith) p1 x _ e1 (ap (λ (n : ℕ). work + brt * n) q1) in

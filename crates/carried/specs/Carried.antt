@@ -32,8 +32,8 @@ pub record Small (g : Gathered) : Type 0 where
   pub shared : g .shared .0 ≤ 2048
 
 -- the reload counts of the methods 0 to 4 for a task with this ECB
-abbrev pub countsOf : Set → Gathered → List ℕ
-countsOf ecb g = 0 ∷ size ecb ∷ g .most .0 ∷ size (members (g .all) ∩ ecb) ∷ g .shared .0 ∷ []
+abbrev pub reloadCountsOf : Set → Gathered → List ℕ
+reloadCountsOf ecb g = 0 ∷ size ecb ∷ g .most .0 ∷ size (members (g .all) ∩ ecb) ∷ g .shared .0 ∷ []
 
 -- ---- where it stands
 
@@ -87,14 +87,14 @@ pub record Passing (board : List ℕ) (i j : ℕ) (ledger : List ℕ) : Type 0 w
 -- ---- the weights of a row
 
 -- where the weight of j under method m stands in a list of 5 * 32 numbers
-abbrev pub place : ℕ → ℕ → ℕ
-place m j = m * 32 + j
+abbrev pub weightAt : ℕ → ℕ → ℕ
+weightAt m j = m * 32 + j
 
 -- the list after w m j was put in for each method and task inside, and nothing else was changed
 pub record Put (inside : ℕ → ℕ → Type 0) (w : ℕ → ℕ → ℕ) (before after : List ℕ) : Type 0 where
   pub long : length after ≡ 160
-  pub each : (m j : ℕ) → inside m j → getD after (place m j) 0 ≡ w m j
-  pub others : (p : ℕ) → ((m j : ℕ) → inside m j → p ≡ place m j → ⊥) → getD after p 0 ≡ getD before p 0
+  pub each : (m j : ℕ) → inside m j → getD after (weightAt m j) 0 ≡ w m j
+  pub others : (p : ℕ) → ((m j : ℕ) → inside m j → p ≡ weightAt m j → ⊥) → getD after p 0 ≡ getD before p 0
 
 -- the first n methods of the task at j
 abbrev pub InPair : ℕ → ℕ → ℕ → ℕ → Type 0
@@ -107,7 +107,7 @@ InRow n m b = (m ≤ 4) × (b < n)
 -- a list that has the weights of row i
 pub record Weighed (board : List ℕ) (i : ℕ) (weights : List ℕ) : Type 0 where
   pub long : length weights ≡ 160
-  pub each : (m j : ℕ) → m ≤ 4 → j < i → getD weights (place m j) 0 ≡ weightOn board m i j
+  pub each : (m j : ℕ) → m ≤ 4 → j < i → getD weights (weightAt m j) 0 ≡ weightOn board m i j
 
 -- the weights of row i, and the ledger carried past it
 pub record RowWeighed (board : List ℕ) (i : ℕ) (ledger weights : List ℕ) : Type 0 where

@@ -13,7 +13,7 @@ ghost use lib.ListN.{length, getD, set};
 ghost use Rattle.sets.specs.Sets.{size};
 ghost use Rattle.sets.specs.Words.{members};
 ghost use Rattle.board.specs.Board.{Lent};
-ghost use Rattle.carried.specs.Carried.{Next, Small, countsOf, gatheredOn, gatheredPut, Ledger, Passing, place, Put, InPair, RowWeighed};
+ghost use Rattle.carried.specs.Carried.{Next, Small, reloadCountsOf, gatheredOn, gatheredPut, Ledger, Passing, weightAt, Put, InPair, RowWeighed};
 
 // Where the sets that are gathered start on the ledger, counted in sets of four words, and where the numbers do.
 const ALL: usize = 32;
@@ -68,7 +68,7 @@ fn keep(ledger: &mut [u64; 352], j: usize, gathered: Gathered)
 // Puts in the weight of j under a method: `work` ticks and `n` reloads.
 fn put(weights: &mut [u64; 160], method: usize, j: usize, work: Ticks, n: Reloads, brt: Ticks)
     requires { ⌜ (method ≤ 4) × (j < 32) × (work .0 ≤ 250000000) × (n .0 ≤ 2048) × (brt .0 ≤ 100000) × (length (now weights) ≡ 160) ⌝ }
-    ensures { λ _. ⌜ (now (weights .exit) ≡ set (now (weights .entry)) (place method j) (work .0 + brt .0 * n .0)) × (length (now (weights .exit)) ≡ 160) ⌝ }
+    ensures { λ _. ⌜ (now (weights .exit) ≡ set (now (weights .entry)) (weightAt method j) (work .0 + brt .0 * n .0)) × (length (now (weights .exit)) ≡ 160) ⌝ }
 {
     let at = method * 32 + j;
     weights[at] = costs::weight(work, n, brt).0;
@@ -85,7 +85,7 @@ fn put_pair(
     brt: Ticks,
 )
     requires { ⌜ (j < 32) × (work .0 ≤ 250000000) × (brt .0 ≤ 100000) × (evicting .0 ≡ size (members ecb)) × Small gathered × (length (now weights) ≡ 160) ⌝ }
-    ensures { λ _. ⌜ Put (InPair j 5) (λ m _. work .0 + brt .0 * getD (countsOf (members ecb) gathered) m 0) (now (weights .entry)) (now (weights .exit)) ⌝ }
+    ensures { λ _. ⌜ Put (InPair j 5) (λ m _. work .0 + brt .0 * getD (reloadCountsOf (members ecb) gathered) m 0) (now (weights .entry)) (now (weights .exit)) ⌝ }
 {
     let hit = gathered.all.intersection(ecb).size();
     put(weights, 0, j, work, Reloads(0), brt);

@@ -10,7 +10,7 @@ use Rattle.demand.specs.Terms.{periodIn, jitterIn, termIn, InRange, Handed}
 use Rattle.table.specs.declared.Table.{Table}
 use Rattle.board.specs.Board.{ownOn, limitOn, ucbOn, ecbOn, BoardOf, Lent}
 use Rattle.board.proofs.LentLaws.{lent-few, lent-long, lent-ranged}
-use Rattle.costs.specs.Costs.{ucb, ecb, weightOn, termAt, termOn}
+use Rattle.costs.specs.Costs.{ucbOf, ecbOf, weightOn, termAt, termOn}
 use Rattle.costs.proofs.OrderLaws.{reloads-same, term-ranged}
 
 module _ (table : Table) (n : ℕ) (board : List ℕ) (is : BoardOf table n board) (m i j : ℕ) (here : i < n) (above : j < i) where
@@ -18,7 +18,7 @@ module _ (table : Table) (n : ℕ) (board : List ℕ) (is : BoardOf table n boar
   weight-is =
       rw (is .brt)
       (ap₂ (λ (c g : ℕ). c + table .brt .0 * g) (is .tasks j (omega arith) .work)
-      (reloads-same (ucbOn board) (ecbOn board) (ucb table) (ecb table) m i j above
+      (reloads-same (ucbOn board) (ecbOn board) (ucbOf table) (ecbOf table) m i j above
       (λ k l. ap members (is .tasks k (omega arith) .ucb))
       (λ k l. ap members (is .tasks k (omega arith) .ecb))))
 

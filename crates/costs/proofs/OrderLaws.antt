@@ -13,7 +13,7 @@ use Rattle.table.specs.declared.Table.{Table}
 use Rattle.table.specs.Tasks.{at}
 use Rattle.table.specs.Accepted.{AcceptedTable}
 use Rattle.costs.specs.Gather.{unionOf}
-use Rattle.costs.specs.Costs.{ucb, ecb, reloadsOf, termAt}
+use Rattle.costs.specs.Costs.{ucbOf, ecbOf, reloadsOf, termAt}
 use Rattle.costs.specs.Harder.{Harder, HarderBy}
 use Rattle.costs.proofs.CostLaws.{reloads-most}
 
@@ -88,7 +88,7 @@ term-ranged table m i j p h =
       period = q .period .0;
       period-most = q .period .1;
       jitter = omega (arith, q .jitter, q .deadline, q .period);
-      weight = omega (arith, q .work, mul-le-mul {n₂ = 100000} {m₂ = 2048} (p .brt) (reloads-most (ucb table) (ecb table) i j m));
+      weight = omega (arith, q .work, mul-le-mul {n₂ = 100000} {m₂ = 2048} (p .brt) (reloads-most (ucbOf table) (ecbOf table) i j m));
     }
 
 pub term-harder : (place : ℕ → ℕ) (first second : Table) (i j : ℕ) → HarderBy place i first second → AcceptedTable second → j < i
@@ -96,7 +96,7 @@ pub term-harder : (place : ℕ → ℕ) (first second : Table) (i j : ℕ) → H
 term-harder place first second i j harder p above m =
     let t = harder .tasks j (omega arith) in
     let g =
-    reloads-by place (harder .rises) (ucb first) (ecb first) (ucb second) (ecb second) i j above
+    reloads-by place (harder .rises) (ucbOf first) (ecbOf first) (ucbOf second) (ecbOf second) i j above
     (λ k l. harder .tasks k l .ucb) (λ k l. harder .tasks k l .ecb) m
     in
     record {

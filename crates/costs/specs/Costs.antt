@@ -31,16 +31,16 @@ weightOf C brt U E m i j = C j + brt * reloadsOf U E m i j
 
 -- ---- of a table's tasks
 
-abbrev pub ucb : Table → ℕ → Set
-ucb table k = members (at table k .ucb)
+abbrev pub ucbOf : Table → ℕ → Set
+ucbOf table k = members (at table k .ucb)
 
-abbrev pub ecb : Table → ℕ → Set
-ecb table k = members (at table k .ecb)
+abbrev pub ecbOf : Table → ℕ → Set
+ecbOf table k = members (at table k .ecb)
 
 -- what the task at j asks for while i is pending, under method m
 abbrev pub termAt : Table → ℕ → ℕ → ℕ → Term
 termAt table m i j =
-    termOf (at table j .period .0) (at table j .jitter .0) (weightOf (λ k. at table k .work .0) (table .brt .0) (ucb table) (ecb table) m i j)
+    termOf (at table j .period .0) (at table j .jitter .0) (weightOf (λ k. at table k .work .0) (table .brt .0) (ucbOf table) (ecbOf table) m i j)
 
 -- ---- of the tasks on a board
 

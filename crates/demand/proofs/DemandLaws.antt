@@ -13,7 +13,7 @@ use Rattle.demand.specs.Terms.{InRange, Handed}
 use Rattle.demand.specs.Least.{leastOf, NoLater}
 use Rattle.demand.proofs.LeastLaws.{Monotone, leastOf-no-later}
 use Rattle.demand.proofs.SoonerLaws.{none-latest}
-use Rattle.demand.proofs.PositionLaws.{none, next, fold-same, fold-keeps, Rising, place-lt, Grows, gathered}
+use Rattle.demand.proofs.PositionLaws.{fold-none, fold-next, fold-same, fold-keeps, Rising, place-lt, Grows, gathered}
 
 -- ---- one term
 
@@ -83,11 +83,11 @@ handed-for p least most time = record {
 module _ (own : ℕ) (t : ℕ → Term) (r : ℕ) where
   pub demand-none : demandOf own t 0 r ≡ own
   unfolding demandOf
-  demand-none = none _+_ own (λ j. workOf r (t j)) 0
+  demand-none = fold-none _+_ own (λ j. workOf r (t j)) 0
 
   pub demand-next : (n : ℕ) → demandOf own t (n + 1) r ≡ demandOf own t n r + workOf r (t n)
   unfolding demandOf
-  demand-next n = sym (next _+_ own (λ j. workOf r (t j)) 0 n _ _ zero-le refl refl)
+  demand-next n = sym (fold-next _+_ own (λ j. workOf r (t j)) 0 n _ _ zero-le refl refl)
 
   -- it has the task's own work
   pub demand-own : (n : ℕ) → own ≤ demandOf own t n r

@@ -10,7 +10,7 @@ use Rattle.demand.specs.Demand.{Term, ceil, workOf, demandOf}
 use Rattle.demand.specs.Terms.{InRange}
 use Rattle.demand.specs.Least.{Reached, leastOf}
 use Rattle.demand.specs.Hasten.{shareOf, sharesOf, PartOf, TurnOf}
-use Rattle.demand.proofs.PositionLaws.{none, next}
+use Rattle.demand.proofs.PositionLaws.{fold-none, fold-next}
 use Rattle.demand.proofs.LeastLaws.{Monotone, no-solution, climb}
 use Rattle.demand.proofs.DemandLaws.{ceil-le, ceil-mul, work-later, jitter-most, demand-none, demand-next}
 
@@ -30,11 +30,11 @@ work-share s t p =
 module _ (t : ℕ → Term) where
   pub shares-none : sharesOf t 0 ≡ 0
   unfolding sharesOf
-  shares-none = none _+_ 0 (λ j. shareOf (t j)) 0
+  shares-none = fold-none _+_ 0 (λ j. shareOf (t j)) 0
 
   pub shares-next : (n : ℕ) → sharesOf t (n + 1) ≡ sharesOf t n + shareOf (t n)
   unfolding sharesOf
-  shares-next n = sym (next _+_ 0 (λ j. shareOf (t j)) 0 n _ _ zero-le refl refl)
+  shares-next n = sym (fold-next _+_ 0 (λ j. shareOf (t j)) 0 n _ _ zero-le refl refl)
 
   -- the demand is no less than the task's own work and the shares
   load-demand : (own n r : ℕ) → ((j : ℕ) → j < n → InRange (t j))

@@ -112,9 +112,9 @@ module _ (f : ℕ → ℕ) (mono : Monotone f) where
   least-covers limit R p r h = let w = solution-under r h in omega (arith, p .2 (w .0) (w .2))
 
   -- where some number within the limit covers its demand there is an answer, and it is no larger
-  pub answered : (limit r : ℕ) → r ≤ limit → f r ≤ r → (R : Ticks) × (leastOf f limit ≡ Within R) × (R .0 ≤ r)
+  pub answer-under : (limit r : ℕ) → r ≤ limit → f r ≤ r → (R : Ticks) × (leastOf f limit ≡ Within R) × (R .0 ≤ r)
   unfolding LeastWithin
-  answered limit r h p = go (leastOf f limit) refl (leastOf-least f limit)
+  answer-under limit r h p = go (leastOf f limit) refl (leastOf-least f limit)
     where
       go : (a : Response) → leastOf f limit ≡ a → LeastWithin f limit a → (R : Ticks) × (leastOf f limit ≡ Within R) × (R .0 ≤ r)
       go (Within R) e q = (R, e, least-covers limit R q r p)

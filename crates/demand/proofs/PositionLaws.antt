@@ -63,13 +63,13 @@ module _ {B : Type 0} (op : B → B → B) where
 
 -- a loop that gathers over the positions from `from` on: before the first, and at one more
 module _ {B : Type 0} (op : B → B → B) (z : B) (F : ℕ → B) (from : ℕ) where
-  pub none : fold op z F (between from from) ≡ z
+  pub fold-none : fold op z F (between from from) ≡ z
   unfolding run fold
-  none = ap (λ (n : ℕ). fold op z F (run from n)) (sub-self from)
+  fold-none = ap (λ (n : ℕ). fold op z F (run from n)) (sub-self from)
 
-  pub next : (k : ℕ) (so-far it : B) → from ≤ k → so-far ≡ fold op z F (between from k) → it ≡ F k
+  pub fold-next : (k : ℕ) (so-far it : B) → from ≤ k → so-far ≡ fold op z F (between from k) → it ≡ F k
       → op so-far it ≡ fold op z F (between from (k + 1))
-  next k so-far it h e f =
+  fold-next k so-far it h e f =
       ap₂ op e f ∙ sym (ap (fold op z F) (between-next from k h) ∙ fold-snoc op z F (between from k) k)
 
 -- only what stands at the positions counts
@@ -141,7 +141,7 @@ module _ {B : Type 0} {op : B → B → B} {R : B → B → Type 0} (grows : Gro
         let at : c ≤ place k = omega (arith, place-le place rises a k (omega arith)) in
         rw (fold-suc op y F a n)
         (grows .trans _ _ _ (grows .both _ _ _ _ before (q .1))
-        (rw (next op z G c (place k) _ _ at refl refl) (longer z G c (place k + 1 - c) (d - c) (omega (arith, q .0)))))
+        (rw (fold-next op z G c (place k) _ _ at refl refl) (longer z G c (place k + 1 - c) (d - c) (omega (arith, q .0)))))
 
     -- what stands at each position from a on and below b stands, or more, at its place from c on and below d
     pub gathered : (b d : ℕ) → ((k : ℕ) → a ≤ k → k < b → (place k < d) × R (F k) (G (place k)))

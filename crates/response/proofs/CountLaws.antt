@@ -16,7 +16,7 @@ use Rattle.demand.specs.Demand.{Term, ceil, activationsOf, demandOf, NoMore}
 use Rattle.demand.specs.Terms.{periodIn, jitterIn, termIn, InRange, Handed}
 use Rattle.demand.specs.Least.{Reached}
 use Rattle.response.specs.Counts.{missingOf, askedOf, firstEnd, Counting, Periodic, Kept, Raised, Started}
-use Rattle.demand.proofs.PositionLaws.{none, next, fold-same}
+use Rattle.demand.proofs.PositionLaws.{fold-none, fold-next, fold-same}
 use Rattle.demand.proofs.FrontLaws.{front-at, front-long}
 use Rattle.demand.proofs.LeastLaws.{solution-under, reached-below}
 use Rattle.demand.proofs.DemandLaws.{ceil-le, ceil-mul, ceil-is, ceil-most, activations-mono, activations-some, no-more-self}
@@ -68,11 +68,11 @@ asks-bound c w h k = mul-le-mul {n₂ = 1000000000} {m₂ = 500000000} h k
 module _ (own : ℕ) (ws : List ℕ) where
   pub asked-none : (counts : List ℕ) → askedOf own ws counts 0 ≡ own
   unfolding askedOf
-  asked-none counts = none _+_ own (λ j. getD counts j 0 * getD ws j 0) 0
+  asked-none counts = fold-none _+_ own (λ j. getD counts j 0 * getD ws j 0) 0
 
   pub asked-next : (counts : List ℕ) (n : ℕ) → askedOf own ws counts (n + 1) ≡ askedOf own ws counts n + getD counts n 0 * getD ws n 0
   unfolding askedOf
-  asked-next counts n = sym (next _+_ own (λ j. getD counts j 0 * getD ws j 0) 0 n _ _ zero-le refl refl)
+  asked-next counts n = sym (fold-next _+_ own (λ j. getD counts j 0 * getD ws j 0) 0 n _ _ zero-le refl refl)
 
   -- only the first n counts matter
   asked-same : (a b : List ℕ) (n : ℕ) → ((j : ℕ) → j < n → getD a j 0 ≡ getD b j 0) → askedOf own ws a n ≡ askedOf own ws b n

@@ -27,36 +27,36 @@ use Rattle.costs.proofs.BoardLaws.{on-ranged, terms-in, lent-handed}
 use Rattle.carried.specs.Carried.{Weighed}
 use Rattle.analysis.specs.Analysis.{answerOf, answerOn, withCombined, responseOf, cell, rowOf, noRow, rowsOf}
 use Rattle.analysis.proofs.AnswerLaws.{answer-is, answer-by-weights, plain-weight, works, works-are, works-handed}
-use Rattle.rows.specs.Rows.{rowOn, weightsAt, cheaper, plainOn, Left}
+use Rattle.rows.specs.Rows.{rowOn, weightsUnder, cheaper, plainOn, Left}
 
 -- ---- the weights of a row are those of its task
 
 module _ {board : List ℕ} {n : ℕ} (lent : Lent board n) (i : ℕ) (here : i < n) {ws : List ℕ} (weighed : Weighed board i ws) (m : ℕ) (h : m ≤ 4) where
-  each : (j : ℕ) → j < i → getD (weightsAt ws m) j 0 ≡ weightOn board m i j
+  each : (j : ℕ) → j < i → getD (weightsUnder ws m) j 0 ≡ weightOn board m i j
   each j l =
       let from = m * 32 in
       let few = lent-few lent in
       getD-take (from + 32 - from) (drop from ws) j 0 (omega arith) ∙ getD-drop from ws j 0 ∙ weighed .each m j h l
 
-  pub row-handed : Handed (ownOn board i) board (weightsAt ws m) i (limitOn board i)
+  pub row-handed : Handed (ownOn board i) board (weightsUnder ws m) i (limitOn board i)
   row-handed =
       let few = lent-few lent in
       let long = weighed .long in
-      lent-handed lent m i here (weightsAt ws m) each (simp (length-take, length-drop) (omega arith))
+      lent-handed lent m i here (weightsUnder ws m) each (simp (length-take, length-drop) (omega arith))
 
-  same-term : (j : ℕ) → j < i → termIn board (weightsAt ws m) j ≡ termOn board m i j
-  same-term = terms-in lent m i here (weightsAt ws m) each
+  same-term : (j : ℕ) → j < i → termIn board (weightsUnder ws m) j ≡ termOn board m i j
+  same-term = terms-in lent m i here (weightsUnder ws m) each
 
   pub row-started : (counts ends : List ℕ) → Started (ownOn board i) (termOn board m i) i counts ends
-      → Started (ownOn board i) (termIn board (weightsAt ws m)) i counts ends
+      → Started (ownOn board i) (termIn board (weightsUnder ws m)) i counts ends
   row-started counts ends = started-same _ i _ _ counts ends (λ j l. sym (same-term j l))
 
-  pub started-row : (counts ends : List ℕ) → Started (ownOn board i) (termIn board (weightsAt ws m)) i counts ends
+  pub started-row : (counts ends : List ℕ) → Started (ownOn board i) (termIn board (weightsUnder ws m)) i counts ends
       → Started (ownOn board i) (termOn board m i) i counts ends
   started-row counts ends = started-same _ i _ _ counts ends same-term
 
-  pub row-answer : leastOf (demandOf (ownOn board i) (termIn board (weightsAt ws m)) i) (limitOn board i) ≡ answerOn board m i
-  row-answer = answer-by-weights lent m i here (weightsAt ws m) each
+  pub row-answer : leastOf (demandOf (ownOn board i) (termIn board (weightsUnder ws m)) i) (limitOn board i) ≡ answerOn board m i
+  row-answer = answer-by-weights lent m i here (weightsUnder ws m) each
 
 -- ---- on from a cheaper method
 

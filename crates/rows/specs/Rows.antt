@@ -16,8 +16,8 @@ abbrev pub rowOn : List ℕ → ℕ → Row
 rowOn board i = record { cells = map (λ m. cell (withCombined (λ k. answerOn board k i) m)) methods }
 
 -- the weights under method m, in a list of those of the methods 0 to 4
-abbrev pub weightsAt : List ℕ → ℕ → List ℕ
-weightsAt weights m = let from = m * 32 in take (from + 32 - from) (drop from weights)
+abbrev pub weightsUnder : List ℕ → ℕ → List ℕ
+weightsUnder weights m = let from = m * 32 in take (from + 32 - from) (drop from weights)
 
 -- a method that never has larger weights than m: UCB-Union for ECB-Only, ECB-Union for UCB-Only, and no reloads at all for the others
 abbrev pub cheaper : ℕ → ℕ

@@ -8,7 +8,7 @@ use Rattle.sets.specs.Words.{members}
 use Rattle.sets.specs.Stored.{setAt}
 use Rattle.sets.proofs.WordLaws.{members-empty}
 use Rattle.demand.specs.Positions.{between}
-use Rattle.demand.proofs.PositionLaws.{none, next}
+use Rattle.demand.proofs.PositionLaws.{fold-none, fold-next}
 use Rattle.costs.specs.Gather.{unionOf}
 use Rattle.costs.proofs.union_over.Statement.{statement}
 use Rattle.costs.proofs.union_over.Tie as tie
@@ -20,7 +20,7 @@ abbrev μ-loop : tie.MeasureT-loop
 μ-loop words first from to all₀ k₀ all k = to - k
 
 loop-holds : tie.Need-loop-holds Inv-loop μ-loop
-loop-holds c = let a = c .before .args in (omega arith, omega arith, members-empty ∙ sym (none _∪_ ∅ (λ k. setAt (a .words .now) (a .first + k)) (a .from)))
+loop-holds c = let a = c .before .args in (omega arith, omega arith, members-empty ∙ sym (fold-none _∪_ ∅ (λ k. setAt (a .words .now) (a .first + k)) (a .from)))
 
 loop-again : tie.Need-loop-again Inv-loop μ-loop
 loop-again c =
@@ -28,7 +28,7 @@ loop-again c =
     let a = h .before .before .args in (
       omega arith,
       omega arith,
-      c .union .ensures ∙ next _∪_ ∅ (λ k. setAt (a .words .now) (a .first + k)) (a .from) (h .loop .k) _ _ (h .loop .inv .0) (h .loop .inv .2) (ap members (c .before .at .ensures)),
+      c .union .ensures ∙ fold-next _∪_ ∅ (λ k. setAt (a .words .now) (a .first + k)) (a .from) (h .loop .k) _ _ (h .loop .inv .0) (h .loop .inv .2) (ap members (c .before .at .ensures)),
     )
 
 returns : tie.Need-returns Inv-loop μ-loop
