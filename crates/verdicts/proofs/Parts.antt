@@ -7,7 +7,7 @@ use native.Mathlib.Omega.{arith}
 use lib.ListN.{length, getD}
 use Rattle.demand.specs.declared.Response.{Response}
 use Rattle.demand.specs.Positions.{methods}
-use Rattle.demand.proofs.PositionLaws.{next}
+use Rattle.demand.proofs.PositionLaws.{fold-next}
 use Rattle.writer.specs.Text.{afterTab}
 use Rattle.verdicts.specs.Verdicts.{hasResponse, verdict, yesNo, verdictLine}
 use Rattle.verdicts.proofs.Lists.{methods-at, methods-same}
@@ -25,4 +25,4 @@ verdict-parts count answers = refl
 pub verdicts-more : (told : List Bool) (answers : ℕ → ℕ → Response) (i : ℕ) → told ≡ map (λ m. verdict i (answers m)) methods → map (λ m. getD told m false && hasResponse (answers m i)) methods ≡ map (λ m. verdict (i + 1) (answers m)) methods
 verdicts-more told answers i are =
     methods-same (λ m. getD told m false && hasResponse (answers m i)) (λ m. verdict (i + 1) (answers m))
-    (λ m h. next _&&_ true (λ j. hasResponse (answers m j)) 0 i _ _ zero-le (ap (λ (bs : List Bool). getD bs m false) are ∙ methods-at (λ j. verdict i (answers j)) m false h) refl)
+    (λ m h. fold-next _&&_ true (λ j. hasResponse (answers m j)) 0 i _ _ zero-le (ap (λ (bs : List Bool). getD bs m false) are ∙ methods-at (λ j. verdict i (answers j)) m false h) refl)
