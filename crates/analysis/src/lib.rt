@@ -40,7 +40,7 @@ fn single(board: &[u64], method: u64, i: usize) -> Response
 }
 
 // The same under one of the methods 0 to 5. Method 5 is the sooner of the answers of 3 and 4.
-fn answer(board: &[u64], method: u64, i: usize) -> Response
+fn respond_on(board: &[u64], method: u64, i: usize) -> Response
     requires { ⌜ (method ≤ 5) × Lent (now board) (i + 1) ⌝ }
     ensures { λ r. ⌜ r ≡ withCombined (λ m. answerOn (now (board .entry)) m i) method ⌝ }
 {
@@ -59,5 +59,5 @@ pub fn respond(table: Table, method: u64, i: usize) -> Response
 {
     let mut board = [0u64; 417];
     board::fill(table, i + 1, &mut board);
-    answer(&board, method, i)
+    respond_on(&board, method, i)
 }

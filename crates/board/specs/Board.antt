@@ -1,5 +1,11 @@
 -- The board: the numbers and sets of a table that the analysis works on, in one list of 417 numbers. What is lent is the board, and not a table,
--- which would be copied at each call. These definitions say what stands where.
+-- which would be copied at each call. Each kind has 32 places, one for each task, and a set has four words:
+--
+--     from     0   T               from   128   D - J
+--             32   J                      160   UCB
+--             64   C                      288   ECB
+--             96   C + B           at     416   the block reload time
+--
 use Prim.Native.Nat.{ℕ, _+_, _≤_, _<_}
 use mathlib.Core.Path.{_≡_}
 use mathlib.Core.List.{List}
@@ -13,7 +19,7 @@ use Rattle.table.specs.Tasks.{at}
 use Rattle.table.specs.Accepted.{AcceptedTable}
 use Rattle.demand.specs.Terms.{periodIn, jitterIn}
 
--- It starts as a list of releases, with T and J: `periodIn` and `jitterIn` of crate demand. C, C + B and D - J of the task at k follow,
+-- C, C + B and D - J of the task at k. T and J are `periodIn` and `jitterIn`: a board starts as a list of releases does
 abbrev pub workOn : List ℕ → ℕ → ℕ
 workOn board k = getD board (64 + k) 0
 
@@ -23,7 +29,7 @@ ownOn board k = getD board (96 + k) 0
 abbrev pub limitOn : List ℕ → ℕ → ℕ
 limitOn board k = getD board (128 + k) 0
 
--- then its UCB and its ECB, four words each, so that the first UCB stands at position 40 of a list of sets, and the first ECB at 72,
+-- the positions of its UCB and its ECB among sets of four words, and the sets that stand there
 abbrev pub ucbAt : ℕ → ℕ
 ucbAt k = 40 + k
 
@@ -36,7 +42,7 @@ ucbOn board k = setAt board (ucbAt k)
 abbrev pub ecbOn : List ℕ → ℕ → Set
 ecbOn board k = setAt board (ecbAt k)
 
--- and last the block reload time
+-- the block reload time
 abbrev pub brtOn : List ℕ → ℕ
 brtOn board = getD board 416 0
 

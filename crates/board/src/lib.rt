@@ -6,16 +6,19 @@ ghost use lib.ListN.{length};
 ghost use Rattle.table.specs.Accepted.{AcceptedTable};
 ghost use Rattle.board.specs.Board.{BoardOf};
 
-// Where each kind of number starts. It starts itself with the periods and the jitters, as a list of releases does.
+// Where C of the tasks starts. T and J stand before it, as in a list of releases.
 pub const WORKS: usize = 64;
 
+// Where C + B starts.
 pub const OWNS: usize = 96;
 
+// Where D - J starts.
 pub const LIMITS: usize = 128;
 
-// Where the sets start, counted in sets of four words.
+// Where the UCBs start, counted in sets of four words.
 pub const UCBS: usize = 40;
 
+// Where the ECBs start, counted so too.
 pub const ECBS: usize = 72;
 
 // Where the block reload time stands.

@@ -1,4 +1,12 @@
--- What is carried down the rows of a report: the ledger, one list of 352 numbers. And the weights of one row that it gives.
+-- What is carried down the rows of a report: the ledger, one list of 352 numbers, and the weights of one row that it gives. Each kind of
+-- number or set has 32 places on the ledger, one for each task, and a set has four words:
+--
+--     from     0   the union of the ECBs down to the task's own
+--            128   the union of the UCBs that is gathered for it
+--            256   the size of its ECB
+--            288   the largest size of a UCB that is gathered for it
+--            320   the most that one of these UCBs shares with the union of the ECBs
+--
 use Prim.Native.Nat.{ℕ, _+_, _*_, _≤_, _<_, max}
 use mathlib.Core.Path.{_≡_}
 use mathlib.Core.List.{List, [], _∷_}
@@ -37,19 +45,18 @@ reloadCountsOf ecb g = 0 ∷ size ecb ∷ g .most .0 ∷ size (members (g .all) 
 
 -- ---- where it stands
 
--- of the task at j the ledger has the union of the ECBs down to its own, four words, and then the union that is gathered for it, at number 32 + j
--- of a list of sets,
+-- the union of the ECBs down to that of the task at j
 abbrev pub aboveOn : List ℕ → ℕ → Set
 aboveOn ledger j = setAt ledger j
 
-abbrev pub allAt : ℕ → ℕ
-allAt j = 32 + j
-
--- then the size of its ECB,
+-- the size of its ECB
 abbrev pub evictingOn : List ℕ → ℕ → ℕ
 evictingOn ledger j = getD ledger (256 + j) 0
 
--- and the two counts that are gathered for it
+-- the positions of what is gathered for it: of the union among sets of four words, and of the two counts
+abbrev pub allAt : ℕ → ℕ
+allAt j = 32 + j
+
 abbrev pub mostAt : ℕ → ℕ
 mostAt j = 288 + j
 

@@ -15,13 +15,16 @@ ghost use Rattle.sets.specs.Words.{members};
 ghost use Rattle.board.specs.Board.{Lent};
 ghost use Rattle.carried.specs.Carried.{Next, Small, reloadCountsOf, gatheredOn, gatheredPut, Ledger, Passing, weightAt, Put, InPair, RowWeighed};
 
-// Where the sets that are gathered start on the ledger, counted in sets of four words, and where the numbers do.
+// Where the unions of UCBs start on the ledger, counted in sets of four words; those of ECBs stand before them.
 const ALL: usize = 32;
 
+// Where the sizes of the ECBs start.
 const EVICTING: usize = 256;
 
-const MOST: usize = 288;
+// Where the largest sizes start.
+const LARGEST: usize = 288;
 
+// Where the largest shared sizes start.
 const SHARED: usize = 320;
 
 // What is gathered for the task at j over the positions below it, down to a row: the largest UCB, the union of the UCBs, and the most that one
@@ -49,7 +52,7 @@ fn gathered_for(ledger: &[u64], j: usize) -> Gathered
     ensures { λ r. ⌜ r ≡ gatheredOn (now (ledger .entry)) j ⌝ }
 {
     Gathered {
-        most: Reloads(ledger[MOST + j]),
+        most: Reloads(ledger[LARGEST + j]),
         all: CacheSet::at(ledger, ALL + j),
         shared: Reloads(ledger[SHARED + j]),
     }
@@ -60,7 +63,7 @@ fn keep(ledger: &mut [u64; 352], j: usize, gathered: Gathered)
     requires { ⌜ (j < 32) × (length (now ledger) ≡ 352) ⌝ }
     ensures { λ _. ⌜ now (ledger .exit) ≡ gatheredPut (now (ledger .entry)) j gathered ⌝ }
 {
-    ledger[MOST + j] = gathered.most.0;
+    ledger[LARGEST + j] = gathered.most.0;
     gathered.all.store(ledger, ALL + j);
     ledger[SHARED + j] = gathered.shared.0;
 }
@@ -95,7 +98,7 @@ fn put_pair(
     put(weights, 4, j, work, gathered.shared, brt);
 }
 
-// Adds the column of the task at i, below all that have one: the union of the ECBs down to its own, the size of that, and nothing gathered.
+// Adds the column of the task at i, below all that have one: the union of the ECBs down to its own, the size of its own, and nothing gathered.
 fn add_column(board: &[u64], i: usize, ledger: &mut [u64; 352])
     requires { ⌜ Lent (now board) (i + 1) × Passing (now board) i i (now ledger) ⌝ }
     ensures { λ _. ⌜ Ledger (now (board .entry)) (i + 1) (now (ledger .exit)) ⌝ }

@@ -13,7 +13,7 @@ use Rattle.sets.specs.Field.{readSet}
 use Rattle.sets.proofs.FieldLaws.{read-below}
 use Rattle.tasks.specs.declared.Name.{Name}
 use Rattle.tasks.specs.Tasks.{nameText, packName}
-use Rattle.tasks.specs.Said.{isMarks, marksOf, fieldsSaid, taskSaid}
+use Rattle.tasks.specs.Said.{isMarks, marksOf, timesSaid, fieldsSaid, taskSaid}
 use Rattle.tasks.proofs.Names.{name-kept}
 use Rattle.faults.proofs.LineLaws.{TaskHolds, ranges, order}
 use Rattle.table.specs.Accepted.{MarksBelow, AcceptedTask}
@@ -25,15 +25,15 @@ marks-below sets f Bad by-four e h = absurd (false≢true h)
 -- the task of such a line may be taken, and its name is filled up with zeros
 module _ (sets : ℕ) (line : List ℕ) (count : ℕ) (names : List Name) (by-four : sets % 4 ≡ 0) (h : TaskHolds count names (taskSaid sets line)) where
   is-name : isName (field 1 line) ≡ true
-  unfolding taskSaid fieldsSaid
+  unfolding taskSaid timesSaid fieldsSaid
   is-name = h .named
 
   marks : (isMarks (readSet sets (field 7 line)) ≡ true) × (isMarks (readSet sets (field 8 line)) ≡ true)
-  unfolding taskSaid fieldsSaid
+  unfolding taskSaid timesSaid fieldsSaid
   marks = and-eq-true-iff _ _ .0 (h .marked)
 
   pub task-accepted : AcceptedTask sets (taskSaid sets line .task)
-  unfolding taskSaid fieldsSaid
+  unfolding taskSaid timesSaid fieldsSaid
   task-accepted =
       let r = ranges (taskSaid sets line .task) (h .in-range) in
       let o = order (taskSaid sets line .task) (h .in-order) in
@@ -49,5 +49,5 @@ module _ (sets : ℕ) (line : List ℕ) (count : ℕ) (names : List Name) (by-fo
       }
 
   pub name-filled : taskSaid sets line .task .name ≡ packName (nameText (taskSaid sets line .task .name))
-  unfolding taskSaid fieldsSaid
+  unfolding taskSaid timesSaid fieldsSaid
   name-filled = rw (name-kept (field 1 line) is-name)

@@ -10,6 +10,7 @@ use Rattle.sets.specs.declared.SetField.{SetField}
 use Rattle.sets.specs.declared.SetField.the-variants.{Marks, Bad}
 use Rattle.sets.specs.Field.{readSet}
 use Rattle.tasks.specs.declared.HeadLine.{HeadLine}
+use Rattle.tasks.specs.declared.Times.{Times}
 use Rattle.tasks.specs.declared.TaskLine.{TaskLine}
 use Rattle.tasks.specs.Tasks.{packName, noSets}
 
@@ -31,20 +32,31 @@ abbrev pub marksOf : SetField → CacheSet
 marksOf (Marks c) = c
 marksOf Bad = noSets
 
--- what a task line says, field by field: after `T` the name, then C, T, D, J and B, and the two sets
-unfoldable pub fieldsSaid : ℕ → Bool → (name work period deadline jitter blocking ucb ecb : List ℕ) → TaskLine
-fieldsSaid sets shaped name work period deadline jitter blocking ucb ecb = record {
+-- what the numbers of a task line say: C, T, D, J and B
+unfoldable pub timesSaid : (work period deadline jitter blocking : List ℕ) → Times
+timesSaid work period deadline jitter blocking = record {
+  numbered = isNumber work && isNumber period && isNumber deadline && isNumber jitter && isNumber blocking;
+  work = record { 0 = number work };
+  period = record { 0 = number period };
+  deadline = record { 0 = number deadline };
+  jitter = record { 0 = number jitter };
+  blocking = record { 0 = number blocking };
+}
+
+-- what a task line says: after `T` the name, then the times, and the two sets
+unfoldable pub fieldsSaid : ℕ → Bool → (name : List ℕ) → Times → (ucb ecb : List ℕ) → TaskLine
+fieldsSaid sets shaped name times ucb ecb = record {
   shaped = shaped;
   named = isName name;
-  numbered = isNumber work && isNumber period && isNumber deadline && isNumber jitter && isNumber blocking;
+  numbered = times .numbered;
   marked = isMarks (readSet sets ucb) && isMarks (readSet sets ecb);
   task = record {
     name = packName name;
-    work = record { 0 = number work };
-    period = record { 0 = number period };
-    deadline = record { 0 = number deadline };
-    jitter = record { 0 = number jitter };
-    blocking = record { 0 = number blocking };
+    work = times .work;
+    period = times .period;
+    deadline = times .deadline;
+    jitter = times .jitter;
+    blocking = times .blocking;
     ucb = marksOf (readSet sets ucb);
     ecb = marksOf (readSet sets ecb);
   };
@@ -56,10 +68,6 @@ taskSaid sets line =
     fieldsSaid sets
     (hasShape 84 9 line)
     (field 1 line)
-    (field 2 line)
-    (field 3 line)
-    (field 4 line)
-    (field 5 line)
-    (field 6 line)
+    (timesSaid (field 2 line) (field 3 line) (field 4 line) (field 5 line) (field 6 line))
     (field 7 line)
     (field 8 line)

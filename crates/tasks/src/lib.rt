@@ -5,7 +5,7 @@ use sets::SetField;
 use units::Ticks;
 ghost use mathlib.Core.Path.{_≡_};
 ghost use Rattle.tasks.specs.Tasks.{packName};
-ghost use Rattle.tasks.specs.Said.{headSaid, isMarks, marksOf, fieldsSaid, taskSaid};
+ghost use Rattle.tasks.specs.Said.{headSaid, isMarks, marksOf, timesSaid, fieldsSaid, taskSaid};
 
 // A name of 1 to 12 bytes, filled up with zeros.
 pub struct Name {
@@ -95,48 +95,73 @@ fn marks_of(f: SetField) -> CacheSet
     }
 }
 
-// What the fields of a task line say. Each is read once.
-fn fields_said(
-    sets: u64,
-    shaped: bool,
-    name: &[u8],
-    work: &[u8],
-    period: &[u8],
-    deadline: &[u8],
-    jitter: &[u8],
-    blocking: &[u8],
-    ucb: &[u8],
-    ecb: &[u8],
-) -> TaskLine
-    ensures { λ r. ⌜ r ≡ fieldsSaid sets shaped (now (name .entry)) (now (work .entry)) (now (period .entry)) (now (deadline .entry)) (now (jitter .entry)) (now (blocking .entry)) (now (ucb .entry)) (now (ecb .entry)) ⌝ }
+// What the numbers of a task line say: whether all of them can be read, and C, T, D, J and B.
+struct Times {
+    numbered: bool,
+    work: Ticks,
+    period: Ticks,
+    deadline: Ticks,
+    jitter: Ticks,
+    blocking: Ticks,
+}
+
+// Each field is read once.
+fn times_said(work: &[u8], period: &[u8], deadline: &[u8], jitter: &[u8], blocking: &[u8]) -> Times
+    ensures { λ r. ⌜ r ≡ timesSaid (now (work .entry)) (now (period .entry)) (now (deadline .entry)) (now (jitter .entry)) (now (blocking .entry)) ⌝ }
 {
-    let named = fields::is_name(name);
-    let name = pack_name(name);
     let work = fields::read_number(work);
     let period = fields::read_number(period);
     let deadline = fields::read_number(deadline);
     let jitter = fields::read_number(jitter);
     let blocking = fields::read_number(blocking);
-    let ucb = CacheSet::from_field(ucb, sets);
-    let ecb = CacheSet::from_field(ecb, sets);
-    let task = Task {
-        name,
+    Times {
+        numbered: fields::is_value(work)
+            & fields::is_value(period)
+            & fields::is_value(deadline)
+            & fields::is_value(jitter)
+            & fields::is_value(blocking),
         work: Ticks(fields::value_of(work)),
         period: Ticks(fields::value_of(period)),
         deadline: Ticks(fields::value_of(deadline)),
         jitter: Ticks(fields::value_of(jitter)),
         blocking: Ticks(fields::value_of(blocking)),
+    }
+}
+
+// What the fields of a task line say, with its times.
+fn fields_said(
+    sets: u64,
+    shaped: bool,
+    name: &[u8],
+    times: Times,
+    ucb: &[u8],
+    ecb: &[u8],
+) -> TaskLine
+    ensures { λ r. ⌜ r ≡ fieldsSaid sets shaped (now (name .entry)) times (now (ucb .entry)) (now (ecb .entry)) ⌝ }
+{
+    let named = fields::is_name(name);
+    let name = pack_name(name);
+    let ucb = CacheSet::from_field(ucb, sets);
+    let ecb = CacheSet::from_field(ecb, sets);
+    let work = times.work;
+    let period = times.period;
+    let deadline = times.deadline;
+    let jitter = times.jitter;
+    let blocking = times.blocking;
+    let task = Task {
+        name,
+        work,
+        period,
+        deadline,
+        jitter,
+        blocking,
         ucb: marks_of(ucb),
         ecb: marks_of(ecb),
     };
     TaskLine {
         shaped,
         named,
-        numbered: fields::is_value(work)
-            & fields::is_value(period)
-            & fields::is_value(deadline)
-            & fields::is_value(jitter)
-            & fields::is_value(blocking),
+        numbered: times.numbered,
         marked: is_marks(ucb) & is_marks(ecb),
         task,
     }
@@ -165,16 +190,6 @@ pub fn task_said(sets: u64, line: &[u8]) -> TaskLine
     let ecb = text::before(from_ecb, b'\t');
     let shaped = fields::is_letter(letter, b'T')
         & (text::goes_on(from_ucb, ucb) & !text::goes_on(from_ecb, ecb));
-    fields_said(
-        sets,
-        shaped,
-        name,
-        work,
-        period,
-        deadline,
-        jitter,
-        blocking,
-        ucb,
-        ecb,
-    )
+    let times = times_said(work, period, deadline, jitter, blocking);
+    fields_said(sets, shaped, name, times, ucb, ecb)
 }

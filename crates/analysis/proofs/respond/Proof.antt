@@ -6,15 +6,15 @@ use Rattle.analysis.proofs.AnswerLaws.{response-is}
 use Rattle.analysis.proofs.respond.Statement.{statement}
 use Rattle.analysis.proofs.respond.Tie as tie
 
-answer-requires : tie.Need-answer-requires
-answer-requires c κs =
+respond-on-requires : tie.Need-respond-on-requires
+respond-on-requires c κs =
     let p = c .before .before .before .pre in
     (p .method, record { table = c .before .before .before .args .table; accepted = p .accepted; held = omega (arith, p .held); board-of = c .before .fill .ensures })
 
 returns : tie.Need-returns
 returns c =
     let s = c .before .before .before .before in
-    c .answer .ensures ∙ response-is (s .args .table) _ _ (c .before .before .fill .ensures) (s .args .i) (omega arith) (s .args .method) (s .pre .method)
+    c .respond-on .ensures ∙ response-is (s .args .table) _ _ (c .before .before .fill .ensures) (s .args .i) (omega arith) (s .args .method) (s .pre .method)
 
 pub respond-spec : {M : Type 1} → statement M
 respond-spec =
@@ -23,5 +23,5 @@ respond-spec =
     (λ c. search needs)
     (λ c κs. (omega (arith, c .before .pre .held), c .before .pre .accepted, search needs))
     (λ c. search needs)
-    answer-requires
+    respond-on-requires
     returns)

@@ -33,8 +33,9 @@ returns c =
     let a18 = a17 .before in
     let a19 = a18 .before in
     let a20 = a19 .before in
-    let line = now (a20 .before .before .args .line) in
-    c .fields-said .ensures ∙ rw (a1 .goes-on2 .ensures, a2 .goes-on .ensures, a3 .is-letter .ensures, a4 .before10 .ensures, a5 .past8 .ensures, a6 .before9 .ensures, a7 .past7 .ensures, a8 .before8 .ensures, a9 .past6 .ensures, a10 .before7 .ensures, a11 .past5 .ensures, a12 .before6 .ensures, a13 .past4 .ensures, a14 .before5 .ensures, a15 .past3 .ensures, a16 .before4 .ensures, a17 .past2 .ensures, a18 .before3 .ensures, a19 .past .ensures, a20 .before2 .ensures, fields-are 7 line)
+    let a21 = a20 .before in
+    let line = now (a21 .before .before .args .line) in
+    c .fields-said .ensures ∙ rw (a1 .times-said .ensures, a2 .goes-on2 .ensures, a3 .goes-on .ensures, a4 .is-letter .ensures, a5 .before10 .ensures, a6 .past8 .ensures, a7 .before9 .ensures, a8 .past7 .ensures, a9 .before8 .ensures, a10 .past6 .ensures, a11 .before7 .ensures, a12 .past5 .ensures, a13 .before6 .ensures, a14 .past4 .ensures, a15 .before5 .ensures, a16 .past3 .ensures, a17 .before4 .ensures, a18 .past2 .ensures, a19 .before3 .ensures, a20 .past .ensures, a21 .before2 .ensures, fields-are 7 line)
 
 pub task-said-spec : {M : Type 1} → statement M
 task-said-spec =
@@ -60,5 +61,6 @@ task-said-spec =
     (λ c κs. tt)
     (λ c κs. search needs)
     (λ c κs. search needs)
+    (λ c κs. tt)
     (λ c κs. tt)
     returns)

@@ -1,4 +1,4 @@
--- `analysis::answer` meets its contract. Assumes nothing.
+-- `analysis::respond_on` meets its contract. Assumes nothing.
 use Prim.Native.Nat.{ℕ}
 use mathlib.Core.Path.{ap₂, _∙_}
 use native.Mathlib.Omega.{arith}
@@ -6,8 +6,8 @@ use borrow.Author.Needs.{needs}
 use Rattle.demand.specs.Least.{sooner}
 use Rattle.analysis.specs.Analysis.{answerOn}
 use Rattle.analysis.proofs.AnswerLaws.{combined-at, combined-below}
-use Rattle.analysis.proofs.answer.Statement.{statement}
-use Rattle.analysis.proofs.answer.Tie as tie
+use Rattle.analysis.proofs.respond_on.Statement.{statement}
+use Rattle.analysis.proofs.respond_on.Tie as tie
 
 returns : tie.Need-returns
 returns c =
@@ -21,8 +21,8 @@ returns-2 c =
     ∙ ap₂ sooner (c .before .before .single2 .ensures) (c .before .single3 .ensures)
     ∙ combined-at (λ (m : ℕ). answerOn (a .board .now) m (a .i)) (a .method) (omega arith)
 
-pub answer-spec : {M : Type 1} → statement M
-answer-spec =
+pub respond-on-spec : {M : Type 1} → statement M
+respond-on-spec =
     tie.close
     (tie.spec
     (λ c κs. (omega arith, c .before .before .pre .1))
