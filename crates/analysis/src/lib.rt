@@ -57,7 +57,7 @@ pub fn respond(table: Table, method: u64, i: usize) -> Response
     requires { ⌜ Answerable 5 table method i ⌝ }
     ensures { λ r. ⌜ r ≡ responseOf table method i ⌝ }
 {
-    let mut board = [0u64; 417];
+    let mut board = [0u64; board::PLACES];
     board::fill(table, i + 1, &mut board);
     respond_on(&board, method, i)
 }

@@ -6,6 +6,9 @@ ghost use lib.ListN.{length};
 ghost use Rattle.table.specs.Accepted.{AcceptedTable};
 ghost use Rattle.board.specs.Board.{BoardOf};
 
+// How many numbers a board has.
+pub const PLACES: usize = 417;
+
 // Where C of the tasks starts. T and J stand before it, as in a list of releases.
 pub const WORKS: usize = 64;
 
@@ -25,7 +28,7 @@ pub const ECBS: usize = 72;
 pub const BRT: usize = 416;
 
 // The board of the first `n` tasks of a table.
-pub fn fill(table: Table, n: usize, board: &mut [u64; 417])
+pub fn fill(table: Table, n: usize, board: &mut [u64; PLACES])
     requires { ⌜ (n ≤ table .count) × AcceptedTable table × (length (now board) ≡ 417) ⌝ }
     ensures { λ _. ⌜ BoardOf table n (now (board .exit)) ⌝ }
 {

@@ -15,6 +15,12 @@ ghost use Rattle.sets.specs.Words.{members};
 ghost use Rattle.board.specs.Board.{Lent};
 ghost use Rattle.carried.specs.Carried.{Next, Small, reloadCountsOf, gatheredOn, gatheredPut, Ledger, Passing, weightAt, Put, InPair, RowWeighed};
 
+// How many numbers a ledger has.
+pub const LEDGER: usize = 352;
+
+// How many weights a row has: 32 under each of the methods 0 to 4.
+pub const WEIGHTS: usize = 160;
+
 // Where the unions of UCBs start on the ledger, counted in sets of four words; those of ECBs stand before them.
 const ALL: usize = 32;
 
@@ -59,7 +65,7 @@ fn gathered_for(ledger: &[u64], j: usize) -> Gathered
 }
 
 // Puts in what is gathered for the task at j.
-fn keep(ledger: &mut [u64; 352], j: usize, gathered: Gathered)
+fn keep(ledger: &mut [u64; LEDGER], j: usize, gathered: Gathered)
     requires { ⌜ (j < 32) × (length (now ledger) ≡ 352) ⌝ }
     ensures { λ _. ⌜ now (ledger .exit) ≡ gatheredPut (now (ledger .entry)) j gathered ⌝ }
 {
@@ -69,7 +75,7 @@ fn keep(ledger: &mut [u64; 352], j: usize, gathered: Gathered)
 }
 
 // Puts in the weight of j under a method: `work` ticks and `n` reloads.
-fn put(weights: &mut [u64; 160], method: usize, j: usize, work: Ticks, n: Reloads, brt: Ticks)
+fn put(weights: &mut [u64; WEIGHTS], method: usize, j: usize, work: Ticks, n: Reloads, brt: Ticks)
     requires { ⌜ (method ≤ 4) × (j < 32) × (work .0 ≤ 250000000) × (n .0 ≤ 2048) × (brt .0 ≤ 100000) × (length (now weights) ≡ 160) ⌝ }
     ensures { λ _. ⌜ (now (weights .exit) ≡ set (now (weights .entry)) (weightAt method j) (work .0 + brt .0 * n .0)) × (length (now (weights .exit)) ≡ 160) ⌝ }
 {
@@ -79,7 +85,7 @@ fn put(weights: &mut [u64; 160], method: usize, j: usize, work: Ticks, n: Reload
 
 // Puts in the weights of j, from its work, its ECB with the size of that, and what is gathered for it.
 fn put_pair(
-    weights: &mut [u64; 160],
+    weights: &mut [u64; WEIGHTS],
     j: usize,
     work: Ticks,
     ecb: CacheSet,
@@ -99,7 +105,7 @@ fn put_pair(
 }
 
 // Adds the column of the task at i, below all that have one: the union of the ECBs down to its own, the size of its own, and nothing gathered.
-fn add_column(board: &[u64], i: usize, ledger: &mut [u64; 352])
+fn add_column(board: &[u64], i: usize, ledger: &mut [u64; LEDGER])
     requires { ⌜ Lent (now board) (i + 1) × Passing (now board) i i (now ledger) ⌝ }
     ensures { λ _. ⌜ Ledger (now (board .entry)) (i + 1) (now (ledger .exit)) ⌝ }
 {
@@ -118,7 +124,7 @@ fn add_column(board: &[u64], i: usize, ledger: &mut [u64; 352])
 
 // The weights of the tasks above i under the methods 0 to 4. What is gathered for each of them is carried one row further, and the task at i
 // gets a column of its own.
-pub fn weigh_row(board: &[u64], i: usize, ledger: &mut [u64; 352], weights: &mut [u64; 160])
+pub fn weigh_row(board: &[u64], i: usize, ledger: &mut [u64; LEDGER], weights: &mut [u64; WEIGHTS])
     requires { ⌜ Lent (now board) (i + 1) × Ledger (now board) i (now ledger) × (length (now weights) ≡ 160) ⌝ }
     ensures { λ _. ⌜ RowWeighed (now (board .entry)) i (now (ledger .exit)) (now (weights .exit)) ⌝ }
 {

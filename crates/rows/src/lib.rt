@@ -147,8 +147,8 @@ fn rows(board: &[u64], count: usize) -> [Row; 32]
     requires { ⌜ Lent (now board) count ⌝ }
     ensures { λ r. ⌜ r ≡ front noRow (rowOn (now (board .entry))) count ⌝ }
 {
-    let mut ledger = [0u64; 352];
-    let mut weights = [0u64; 160];
+    let mut ledger = [0u64; carried::LEDGER];
+    let mut weights = [0u64; carried::WEIGHTS];
     let mut rows = [Row {
         cells: [Cell {
             response: Response::Unschedulable,
@@ -170,7 +170,7 @@ pub fn responses(table: Table) -> [Row; 32]
     ensures { λ r. ⌜ r ≡ rowsOf table ⌝ }
 {
     let count = table.count;
-    let mut board = [0u64; 417];
+    let mut board = [0u64; board::PLACES];
     board::fill(table, count, &mut board);
     rows(&board, count)
 }
