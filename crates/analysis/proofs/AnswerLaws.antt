@@ -62,47 +62,48 @@ module _ (table : Table) (n : ℕ) (board : List ℕ) (is : BoardOf table n boar
   unfolding responseOf
   response-is m h = combined-same (λ k. answerOn board k i) (λ k. answerOf table k i) m h (λ k l. answer-is k)
 
--- by a list of the weights that the board gives
+-- ---- by a list of weights
+
+-- the list that the code makes, and that of the tasks' work, which stands on the board
+abbrev pub weightsOn : List ℕ → ℕ → ℕ → List ℕ
+weightsOn board m i = front 0 (weightOn board m i) i
+
+abbrev pub worksOn : List ℕ → List ℕ
+worksOn board = take 32 (drop 64 board)
+
 module _ {board : List ℕ} {n : ℕ} (lent : Lent board n) (m i : ℕ) (here : i < n) where
   pub answer-by-weights : (ws : List ℕ) → ((j : ℕ) → j < i → getD ws j 0 ≡ weightOn board m i j)
       → leastOf (demandOf (ownOn board i) (termIn board ws) i) (limitOn board i) ≡ answerOn board m i
   unfolding answerOn
   answer-by-weights ws each = ap (λ (f : ℕ → ℕ). leastOf f (limitOn board i)) (demand-same (ownOn board i) _ _ i (terms-in lent m i here ws each))
 
-  -- which the code makes,
-  abbrev pub weightsOn : List ℕ
-  weightsOn = front 0 (weightOn board m i) i
-
-  weights-are : (j : ℕ) → j < i → getD weightsOn j 0 ≡ weightOn board m i j
+  weights-are : (j : ℕ) → j < i → getD (weightsOn board m i) j 0 ≡ weightOn board m i j
   weights-are j l = front-at 0 (weightOn board m i) i j 0 l
 
-  pub weights-handed : Handed (ownOn board i) board weightsOn i (limitOn board i)
+  pub weights-handed : Handed (ownOn board i) board (weightsOn board m i) i (limitOn board i)
   weights-handed =
       let few = lent-few lent in
-      lent-handed lent m i here weightsOn weights-are (omega (arith, front-long 0 (weightOn board m i) i (omega arith)))
+      lent-handed lent m i here (weightsOn board m i) weights-are (omega (arith, front-long 0 (weightOn board m i) i (omega arith)))
 
-  pub answer-by-front : leastOf (demandOf (ownOn board i) (termIn board weightsOn) i) (limitOn board i) ≡ answerOn board m i
-  answer-by-front = answer-by-weights weightsOn weights-are
+  pub answer-by-front : leastOf (demandOf (ownOn board i) (termIn board (weightsOn board m i)) i) (limitOn board i) ≡ answerOn board m i
+  answer-by-front = answer-by-weights (weightsOn board m i) weights-are
 
--- or, without reloads, by the tasks' work, which stands on the board
+-- without reloads the weights are the tasks' work
 pub plain-weight : (board : List ℕ) (i j : ℕ) → workOn board j ≡ weightOn board 0 i j
 unfolding reloadsOf
 plain-weight board i j = omega arith
 
 module _ {board : List ℕ} {n : ℕ} (lent : Lent board n) (i : ℕ) (here : i < n) where
-  abbrev pub works : List ℕ
-  works = take 32 (drop 64 board)
-
-  pub works-are : (j : ℕ) → j < i → getD works j 0 ≡ weightOn board 0 i j
+  pub works-are : (j : ℕ) → j < i → getD (worksOn board) j 0 ≡ weightOn board 0 i j
   works-are j l =
       let few = lent-few lent in
       getD-take 32 (drop 64 board) j 0 (omega arith) ∙ getD-drop 64 board j 0 ∙ plain-weight board i j
 
-  pub works-handed : Handed (ownOn board i) board works i (limitOn board i)
+  pub works-handed : Handed (ownOn board i) board (worksOn board) i (limitOn board i)
   works-handed =
       let few = lent-few lent in
       let long = lent-long lent in
-      lent-handed lent 0 i here works works-are (simp (length-take, length-drop) (omega arith))
+      lent-handed lent 0 i here (worksOn board) works-are (simp (length-take, length-drop) (omega arith))
 
-  pub answer-by-works : (m : ℕ) → m ≡ 0 → leastOf (demandOf (ownOn board i) (termIn board works) i) (limitOn board i) ≡ answerOn board m i
-  answer-by-works m e = answer-by-weights lent 0 i here works works-are ∙ ap (λ (k : ℕ). answerOn board k i) (sym e)
+  pub answer-by-works : (m : ℕ) → m ≡ 0 → leastOf (demandOf (ownOn board i) (termIn board (worksOn board)) i) (limitOn board i) ≡ answerOn board m i
+  answer-by-works m e = answer-by-weights lent 0 i here (worksOn board) works-are ∙ ap (λ (k : ℕ). answerOn board k i) (sym e)

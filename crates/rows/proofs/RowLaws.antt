@@ -26,7 +26,7 @@ use Rattle.costs.proofs.OrderLaws.{ucb-union-least, ecb-union-least}
 use Rattle.costs.proofs.BoardLaws.{on-ranged, terms-in, lent-handed}
 use Rattle.carried.specs.Carried.{Weighed}
 use Rattle.analysis.specs.Analysis.{answerOf, answerOn, withCombined, responseOf, cell, rowOf, noRow, rowsOf}
-use Rattle.analysis.proofs.AnswerLaws.{answer-is, answer-by-weights, plain-weight, works, works-are, works-handed}
+use Rattle.analysis.proofs.AnswerLaws.{answer-is, answer-by-weights, plain-weight, worksOn, works-are, works-handed}
 use Rattle.rows.specs.Rows.{rowOn, weightsUnder, cheaper, plainOn, Left}
 
 -- ---- the weights of a row are those of its task
@@ -113,7 +113,7 @@ pub plain-ones : {board : List ℕ} {n : ℕ} → Lent board n → (i : ℕ) →
     → Started (ownOn board i) (plainOn board) i (replicate 32 1) (front 0 (firstEnd board) i)
 plain-ones {board} lent i here =
     started-same _ i _ _ _ _
-    (λ j l. terms-in lent 0 i here (works lent i here) (works-are lent i here) j l ∙ sym (plain-term board i j))
+    (λ j l. terms-in lent 0 i here (worksOn board) (works-are lent i here) j l ∙ sym (plain-term board i j))
     (ones-started (works-handed lent i here))
 
 -- where the work of the task above makes up for what it is blocked for longer
