@@ -21,8 +21,8 @@ module _ (table : Table) (k : ℕ) (h : k < table .count) where
   unfolding at
   at-held = sym (getD-take (table .count) (table .tasks) k blank h)
 
-  pub task-accepted : AcceptedTable table → AcceptedTask (table .sets) (getD (table .tasks) k blank)
-  task-accepted p = rw at-held (p .tasks k h)
+  pub held-accepted : AcceptedTable table → AcceptedTask (table .sets) (getD (table .tasks) k blank)
+  held-accepted p = rw at-held (p .tasks k h)
 
 -- ---- the board after each store of the code
 

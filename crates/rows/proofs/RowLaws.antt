@@ -117,10 +117,10 @@ plain-ones {board} lent i here =
     (ones-started (works-handed lent i here))
 
 -- where the work of the task above makes up for what it is blocked for longer
-pub carried-next : {board : List ℕ} {n : ℕ} → Lent board n → (counts ends : List ℕ) (i k : ℕ) → i < n → i ≡ k + 1
+pub carried-on : {board : List ℕ} {n : ℕ} → Lent board n → (counts ends : List ℕ) (i k : ℕ) → i < n → i ≡ k + 1
     → ownOn board k ≤ ownOn board i + workOn board k → Left board i counts ends
     → Started (ownOn board i) (plainOn board) i (set counts k 1) (set ends k (periodIn board k - jitterIn board k))
-carried-next {board} lent counts ends i k here e enough left =
+carried-on {board} lent counts ends i k here e enough left =
     let few = lent-few lent in
     subst (λ (n : ℕ). Started (ownOn board i) (plainOn board) n (set counts k 1) (set ends k (periodIn board k - jitterIn board k))) (sym e)
     (started-next _ _ k (plainOn board) counts ends (omega arith) (lent-ranged lent i here .own) enough

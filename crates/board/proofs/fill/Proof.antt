@@ -5,7 +5,7 @@ use mathlib.Core.Path.{_≡_}
 use Rattle.sets.proofs.StoredLaws.{stored-long}
 use lib.ListN.{length-set}
 use Rattle.board.specs.Board.{BoardOf}
-use Rattle.board.proofs.FillLaws.{task-accepted, board-none, board-next}
+use Rattle.board.proofs.FillLaws.{held-accepted, board-none, board-next}
 use Rattle.board.proofs.fill.Statement.{statement}
 use Rattle.board.proofs.fill.Tie as tie
 
@@ -21,12 +21,12 @@ loop-holds c = (omega arith, board-none _ (c .args .board .now) (c .pre .2))
 add-own : tie.Need-add-board-3 Inv-loop μ-loop
 add-own c =
     let s = c .before .before .before .before in
-    let q = task-accepted (s .args .t1) (c .before .before .before .loop .k) (omega arith) (s .pre .1) in omega (arith, q .work, q .blocking)
+    let q = held-accepted (s .args .t1) (c .before .before .before .loop .k) (omega arith) (s .pre .1) in omega (arith, q .work, q .blocking)
 
 sub-limit : tie.Need-sub-board Inv-loop μ-loop
 sub-limit c =
     let s = c .before .before .before .before .before in
-    task-accepted (s .args .t1) (c .before .before .before .before .loop .k) (omega arith) (s .pre .1) .jitter
+    held-accepted (s .args .t1) (c .before .before .before .before .loop .k) (omega arith) (s .pre .1) .jitter
 
 store-requires : tie.Need-store-requires Inv-loop μ-loop
 store-requires c κs =
