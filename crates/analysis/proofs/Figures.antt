@@ -8,10 +8,11 @@ use Rattle.demand.specs.Positions.{run, fold}
 use Rattle.demand.specs.Demand.{demandOf}
 use Rattle.demand.specs.Least.{firstOf, leastOf}
 use Rattle.table.specs.Tasks.{at}
-use Rattle.costs.specs.Costs.{reloadsOf, termAt}
+use Rattle.costs.specs.Costs.{reloadsOf, chargeAt, termAt}
+use Rattle.costs.specs.declared.Charge.{Charge}
 use Rattle.tasks.specs.Tasks.{ownOf}
 use Rattle.analysis.specs.Analysis.{answerOf, responseOf}
-use Rattle.analysis.specs.Figures.{Figure, figures, P}
+use Rattle.analysis.specs.Figures.{Figure, figures, ChargeFigure, chargeFigures, P}
 
 abbrev found : Figure → Response
 found f = responseOf (f .table) (f .method) (f .position)
@@ -23,3 +24,10 @@ pub figures-hold :
     × (demandOf (ownOf (at (P 0 8 0 0) 1)) (termAt (P 0 8 0 0) 0 1) 1 6 ≡ 7)
 unfolding responseOf answerOf leastOf firstOf demandOf reloadsOf at run fold ∅ _∪_ _∩_ sizeBelow size numberOf members
 figures-hold = (refl, refl, refl)
+
+abbrev charged : ChargeFigure → Charge
+charged f = chargeAt (f .table) (f .method) (f .position) (f .above)
+
+pub charge-figures-hold : map charged chargeFigures ≡ map (λ (f : ChargeFigure). f .charge) chargeFigures
+unfolding at run fold ∅ _∪_ _∩_ sizeBelow size numberOf members
+charge-figures-hold = refl

@@ -8,6 +8,10 @@ use Rattle.demand.specs.declared.Response.{Response}
 use Rattle.demand.specs.declared.Response.the-variants.{Within, Unschedulable}
 use Rattle.tasks.specs.declared.Task.{Task}
 use Rattle.table.specs.declared.Table.{Table}
+use Rattle.costs.specs.declared.Charge.{Charge}
+use Rattle.costs.specs.declared.Charge.the-variants.{Victim}
+use Rattle.costs.specs.Gather.{hit}
+use Rattle.costs.specs.Costs.{noVictim}
 
 abbrev ticks : ℕ → Ticks
 ticks n = record { 0 = n }
@@ -71,4 +75,39 @@ figures =
     ∷ answers (P 1 8 0 0) 0 1 7 ∷ noAnswer (P 1 7 1 0) 0 1
     ∷ answers (P 0 8 0 1) 0 1 8
     ∷ noAnswer (P 0 8 8 0) 0 1
+    ∷ []
+
+-- ---- whom the pre-emptions hit
+
+-- four tasks, of which c and d have equally many useful blocks, and b fewer; and three without any
+abbrev Q : Table
+Q = tableOf 4 1 (task 1 20 20 0 0 0x0 0xf ∷ task 2 40 40 0 0 0x1 0xf ∷ task 2 60 60 0 0 0x3 0xf ∷ task 2 80 80 0 0 0x6 0xf ∷ [])
+
+abbrev N : Table
+N = tableOf 4 1 (task 1 20 20 0 0 0x0 0xf ∷ task 2 40 40 0 0 0x0 0xf ∷ task 2 60 60 0 0 0x0 0xf ∷ [])
+
+-- under `method` an activation of the task at `above` of `table` is charged `charge` while the task at `position` is pending
+pub record ChargeFigure : Type 0 where
+  pub table : Table
+  pub method : ℕ
+  pub position : ℕ
+  pub above : ℕ
+  pub charge : Charge
+
+-- n reloads of the task at k
+abbrev hits : Table → ℕ → ℕ → ℕ → ℕ → ℕ → ChargeFigure
+hits table m i j n k = record { table = table; method = m; position = i; above = j; charge = Victim (hit n k) }
+
+-- n reloads of no one task
+abbrev hitsNoOne : Table → ℕ → ℕ → ℕ → ℕ → ChargeFigure
+hitsNoOne table m i j n = record { table = table; method = m; position = i; above = j; charge = noVictim n }
+
+abbrev pub chargeFigures : List ChargeFigure
+chargeFigures =
+    hits (A 60) 2 2 0 2 1 ∷ hits (A 60) 2 2 1 2 2 ∷ hits (A 60) 4 2 0 2 1 ∷ hits (A 60) 4 2 1 2 2
+    ∷ hits (B 60) 2 2 0 4 2 ∷ hits (B 60) 2 2 1 4 2 ∷ hits (B 60) 4 2 0 2 2 ∷ hits (B 60) 4 2 1 4 2
+    ∷ hits M 2 2 0 4 2 ∷ hits M 2 2 1 4 2 ∷ hits M 4 2 0 2 1 ∷ hits M 4 2 1 4 2
+    ∷ hits Q 2 3 0 2 2 ∷ hits Q 2 3 1 2 2 ∷ hits Q 2 3 2 2 3 ∷ hits Q 4 3 0 2 2
+    ∷ hits N 2 2 0 0 1 ∷ hits N 2 2 1 0 2 ∷ hits N 4 2 0 0 1 ∷ hits N 4 2 1 0 2
+    ∷ hitsNoOne M 0 2 0 0 ∷ hitsNoOne M 1 2 0 4 ∷ hitsNoOne M 3 2 0 4
     ∷ []

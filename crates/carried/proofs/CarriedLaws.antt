@@ -1,5 +1,5 @@
 -- Facts about what is carried down the rows on the ledger. Assumes nothing.
-use Prim.Native.Nat.{ℕ, _+_, _*_, _≤_, _<_, max}
+use Prim.Native.Nat.{ℕ, _+_, _*_, _≤_, _<_}
 use native.Mathlib.Omega.{arith}
 use mathlib.Core.Path.{_≡_, refl, sym, ap, _∙_}
 use mathlib.Core.List.{List}
@@ -18,111 +18,152 @@ use Rattle.demand.specs.Positions.{hp}
 use Rattle.demand.proofs.PositionLaws.{fold-none, fold-next}
 use Rattle.board.specs.Board.{workOn, brtOn, ucbOn, ecbOn}
 use Rattle.carried.specs.declared.Gathered.{Gathered}
-use Rattle.costs.specs.Gather.{aff, unionOf, largestOf}
-use Rattle.costs.specs.Costs.{reloadCounts, reloadsOf, weightOn}
-use Rattle.costs.proofs.CostLaws.{largest-most}
-use Rattle.carried.specs.Carried.{Next, Carried, Small, reloadCountsOf, aboveOn, allAt, evictingOn, mostAt, sharedAt, gatheredOn, gatheredPut}
+use Rattle.costs.specs.declared.Hit.{Hit}
+use Rattle.costs.specs.declared.Charge.{Charge}
+use Rattle.costs.specs.Gather.{aff, unionOf, hit, largestAt}
+use Rattle.costs.specs.Costs.{noVictim, charges, reloadsIn, reloadsOf, weightOn}
+use Rattle.costs.proofs.HitLaws.{hit-none, hit-next, largest-from}
+use Rattle.costs.proofs.CostLaws.{hit-most}
+use Rattle.carried.specs.Carried.{Next, Carried, Small, chargesFor, countFor, aboveOn, allAt, evictingOn, mostAt, sharedAt, hitOn, hitPut, gatheredOn, gatheredPut}
 use Rattle.carried.specs.Carried.{Column, Ledger, Passing, Put, InPair}
 use Rattle.carried.proofs.PutLaws.{put-as}
 
 -- ---- what is gathered for one task
 
+-- nothing, and the first that could be hit is the task below
+abbrev pub ungathered : ℕ → Gathered
+ungathered j = record { most = hit 0 (j + 1); all = noSets; shared = hit 0 (j + 1) }
+
 module _ (U : ℕ → Set) (above : Set) (j : ℕ) where
-  -- nothing, before the row below it
-  carried-none : Carried U above j (j + 1) (record { most = record { 0 = 0 }; all = noSets; shared = record { 0 = 0 } })
+  -- before the row below it
+  carried-none : Carried U above j (j + 1) (ungathered j)
   carried-none = record {
-    most = sym (fold-none max 0 (λ k. size (U k)) (j + 1));
+    most = hit-none (λ k. size (U k)) (j + 1);
     all = members-empty ∙ sym (fold-none _∪_ ∅ U (j + 1));
-    shared = sym (fold-none max 0 (λ k. size (U k ∩ above)) (j + 1));
+    shared = hit-none (λ k. size (U k ∩ above)) (j + 1);
   }
 
   -- one row further
-  pub carried-next : (i : ℕ) (g r : Gathered) (ucb : Set) → j < i → ucb ≡ U i → Carried U above j i g → Next g ucb above r → Carried U above j (i + 1) r
+  pub carried-next : (i : ℕ) (g r : Gathered) (ucb : Set) → j < i → ucb ≡ U i → Carried U above j i g → Next g ucb above i r → Carried U above j (i + 1) r
   carried-next i g r ucb h e c n = record {
-    most = n .most ∙ fold-next max 0 (λ k. size (U k)) (j + 1) i _ _ (omega arith) (c .most) (ap size e);
+    most = n .most ∙ hit-next (λ k. size (U k)) (j + 1) i _ _ (omega arith) (c .most) (ap size e);
     all = n .all ∙ fold-next _∪_ ∅ U (j + 1) i _ _ (omega arith) (c .all) e;
-    shared = n .shared ∙ fold-next max 0 (λ k. size (U k ∩ above)) (j + 1) i _ _ (omega arith) (c .shared) (ap (λ (A : Set). size (A ∩ above)) e);
+    shared = n .shared ∙ hit-next (λ k. size (U k ∩ above)) (j + 1) i _ _ (omega arith) (c .shared) (ap (λ (A : Set). size (A ∩ above)) e);
   }
 
   pub carried-small : (i : ℕ) (g : Gathered) → Carried U above j i g → Small g
   carried-small i g c = record {
-    most = rw (c .most) (largest-most _ _ (λ k. omega (arith, size-le (U k))));
-    shared = rw (c .shared) (largest-most _ _ (λ k. omega (arith, size-le (U k ∩ above))));
+    most = rw (c .most) (hit-most _ _ _ (λ k. omega (arith, size-le (U k))));
+    shared = rw (c .shared) (hit-most _ _ _ (λ k. omega (arith, size-le (U k ∩ above))));
   }
 
-  -- the counts of a row
-  counted : (E : ℕ → Set) (ecb : Set) (i : ℕ) (g : Gathered) → Carried U above j (i + 1) g → ecb ≡ E j → above ≡ unionOf E (hp (j + 1))
-      → reloadCountsOf ecb g ≡ reloadCounts U E i j
-  counted E ecb i g c e f =
-      let m = c .most in
+  -- the charges of a row below it
+  charged : (E : ℕ → Set) (ecb : Set) (i : ℕ) (g : Gathered) → j < i → Carried U above j (i + 1) g → ecb ≡ E j → above ≡ unionOf E (hp (j + 1))
+      → chargesFor ecb g ≡ charges U E i j
+  charged E ecb i g h c e f =
+      let m = c .most ∙ largest-from (λ k. size (U k)) (j + 1) (i + 1) (omega arith) in
       let a = c .all in
-      let s = c .shared ∙ ap (λ (A : Set). largestOf (λ k. size (U k ∩ A)) (aff i j)) f in
+      let s =
+      c .shared ∙ largest-from (λ k. size (U k ∩ above)) (j + 1) (i + 1) (omega arith)
+      ∙ ap (λ (A : Set). largestAt (λ k. size (U k ∩ A)) (aff i j)) f in
       cc
 
 -- ---- what is gathered for j put in
 
-module _ (l : List ℕ) (j : ℕ) (g : Gathered) (few : j < 32) (long : length l ≡ 352) where
-  abbrev counted-in : List ℕ
-  counted-in = set l (mostAt j) (g .most .0)
+-- a hit put in
+module _ (l : List ℕ) (p : ℕ) (h : Hit) where
+  hit-long : length (hitPut l p h) ≡ length l
+  hit-long = simp length-set refl
+
+  hit-same : 32 + p < length l → hitOn (hitPut l p h) p ≡ h
+  hit-same few =
+      rw (
+        getD-set-other (set l p (h .reloads .0)) (32 + p) p (h .victim) 0 (λ z. omega arith),
+        getD-set-same l p (h .reloads .0) 0 (omega arith),
+        getD-set-same (set l p (h .reloads .0)) (32 + p) (h .victim) 0 (simp length-set few),
+      )
+
+  hit-beside : (q : ℕ) → (q ≡ p → ⊥) → (q ≡ 32 + p → ⊥) → getD (hitPut l p h) q 0 ≡ getD l q 0
+  hit-beside q m n = getD-set-other (set l p (h .reloads .0)) (32 + p) q (h .victim) 0 n ∙ getD-set-other l p q (h .reloads .0) 0 m
+
+  held-before-hit : 256 ≤ p → (q : ℕ) → q < 64 → heldAt (hitPut l p h) q ≡ heldAt l q
+  held-before-hit high q few =
+      held-beside (set l p (h .reloads .0)) (32 + p) (h .victim) q (λ r m z. omega arith)
+      ∙ held-beside l p (h .reloads .0) q (λ r m z. omega arith)
+
+module _ (l : List ℕ) (j : ℕ) (g : Gathered) (few : j < 32) (long : length l ≡ 416) where
+  abbrev most-in : List ℕ
+  most-in = hitPut l (mostAt j) (g .most)
 
   abbrev both-in : List ℕ
-  both-in = storedAt counted-in (allAt j) (g .all)
+  both-in = storedAt most-in (allAt j) (g .all)
 
-  both-long : length both-in ≡ 352
-  both-long = stored-long counted-in (allAt j) (g .all) ∙ simp length-set long
+  most-long : length most-in ≡ 416
+  most-long = hit-long l (mostAt j) (g .most) ∙ long
 
-  pub put-long : length (gatheredPut l j g) ≡ 352
-  put-long = simp length-set both-long
+  both-long : length both-in ≡ 416
+  both-long = stored-long most-in (allAt j) (g .all) ∙ most-long
+
+  pub put-long : length (gatheredPut l j g) ≡ 416
+  put-long = hit-long both-in (sharedAt j) (g .shared) ∙ both-long
+
+  -- the last two steps, and then the first, leave a number as it was
+  after-most : (q : ℕ) → 256 ≤ q → (q ≡ sharedAt j → ⊥) → (q ≡ 32 + sharedAt j → ⊥) → getD (gatheredPut l j g) q 0 ≡ getD most-in q 0
+  after-most q h s v = hit-beside both-in (sharedAt j) (g .shared) q s v ∙ stored-beside most-in (allAt j) (g .all) q (λ r n z. omega arith)
+
+  number-kept : (q : ℕ) → 256 ≤ q → ((n : ℕ) → n < 4 → q ≡ mostAt j + 32 * n → ⊥) → getD (gatheredPut l j g) q 0 ≡ getD l q 0
+  number-kept q h out =
+      after-most q h (λ z. out 2 (omega arith) (omega arith)) (λ z. out 3 (omega arith) (omega arith))
+      ∙ hit-beside l (mostAt j) (g .most) q (λ z. out 0 (omega arith) (omega arith)) (λ z. out 1 (omega arith) (omega arith))
+
+  set-kept : (q : ℕ) → q < 64 → (q ≡ allAt j → ⊥) → heldAt (gatheredPut l j g) q ≡ heldAt l q
+  set-kept q h n =
+      held-before-hit both-in (sharedAt j) (g .shared) (omega arith) q h
+      ∙ stored-other most-in (allAt j) (g .all) q n
+      ∙ held-before-hit l (mostAt j) (g .most) (omega arith) q h
 
   -- it is there
   put-same : gatheredOn (gatheredPut l j g) j ≡ g
   put-same =
       rw (
-        getD-set-other both-in (sharedAt j) (mostAt j) (g .shared .0) 0 (λ z. omega arith),
-        stored-beside counted-in (allAt j) (g .all) (mostAt j) (λ r h z. omega arith),
-        getD-set-same l (mostAt j) (g .most .0) 0 (omega arith),
-        held-beside both-in (sharedAt j) (g .shared .0) (allAt j) (λ r h z. omega arith),
-        stored-same counted-in (allAt j) (g .all) (simp length-set (omega arith)),
-        getD-set-same both-in (sharedAt j) (g .shared .0) 0 (omega (arith, both-long)),
+        after-most (mostAt j) (omega arith) (λ z. omega arith) (λ z. omega arith),
+        after-most (32 + mostAt j) (omega arith) (λ z. omega arith) (λ z. omega arith),
+        hit-same l (mostAt j) (g .most) (omega arith),
+        held-before-hit both-in (sharedAt j) (g .shared) (omega arith) (allAt j) (omega arith),
+        stored-same most-in (allAt j) (g .all) (omega (arith, most-long)),
+        hit-same both-in (sharedAt j) (g .shared) (omega (arith, both-long)),
       )
-
-  -- and what stands for another task, or the ECBs, is as it was
-  number-kept : (q : ℕ) → 256 ≤ q → (q ≡ mostAt j → ⊥) → (q ≡ sharedAt j → ⊥) → getD (gatheredPut l j g) q 0 ≡ getD l q 0
-  number-kept q h m s =
-      getD-set-other both-in (sharedAt j) q (g .shared .0) 0 s
-      ∙ stored-beside counted-in (allAt j) (g .all) q (λ r n z. omega arith)
-      ∙ getD-set-other l (mostAt j) q (g .most .0) 0 m
-
-  set-kept : (q : ℕ) → q < 64 → (q ≡ allAt j → ⊥) → heldAt (gatheredPut l j g) q ≡ heldAt l q
-  set-kept q h n =
-      held-beside both-in (sharedAt j) (g .shared .0) q (λ r m z. omega arith)
-      ∙ stored-other counted-in (allAt j) (g .all) q n
-      ∙ held-beside l (mostAt j) (g .most .0) q (λ r m z. omega arith)
 
 -- ---- columns
 
 -- a column that a change leaves alone
-column-kept : {board l to : List ℕ} {k i : ℕ} → heldAt to k ≡ heldAt l k → evictingOn to k ≡ evictingOn l k
-    → getD to (mostAt k) 0 ≡ getD l (mostAt k) 0 → heldAt to (allAt k) ≡ heldAt l (allAt k) → getD to (sharedAt k) 0 ≡ getD l (sharedAt k) 0
-    → Column board l k i → Column board to k i
-column-kept a e m s h c = record { above = ap members a ∙ c .above; evicting = e ∙ c .evicting; gathered = rw (m, s, h) (c .gathered) }
+column-kept : {board l to : List ℕ} {k i : ℕ} → heldAt to k ≡ heldAt l k → heldAt to (allAt k) ≡ heldAt l (allAt k)
+    → ((q n : ℕ) → q ≡ 256 + k + 32 * n → getD to q 0 ≡ getD l q 0) → Column board l k i → Column board to k i
+column-kept {k = k} a s numbers c = record {
+  above = ap members a ∙ c .above;
+  evicting = numbers (256 + k) 0 (omega arith) ∙ c .evicting;
+  gathered = rw (
+    numbers (mostAt k) 1 (omega arith),
+    numbers (32 + mostAt k) 2 (omega arith),
+    s,
+    numbers (sharedAt k) 3 (omega arith),
+    numbers (32 + sharedAt k) 4 (omega arith),
+  ) (c .gathered);
+}
 
-module _ (board l : List ℕ) (j : ℕ) (g : Gathered) (few : j < 32) (long : length l ≡ 352) where
+module _ (board l : List ℕ) (j : ℕ) (g : Gathered) (few : j < 32) (long : length l ≡ 416) where
   -- another one
   column-other : (k i : ℕ) → k < 32 → (k ≡ j → ⊥) → Column board l k i → Column board (gatheredPut l j g) k i
-  column-other k i h n =
-      column-kept (set-kept l j g few long k (omega arith) (λ z. omega arith))
-      (number-kept l j g few long (256 + k) (omega arith) (λ z. omega arith) (λ z. omega arith))
-      (number-kept l j g few long (mostAt k) (omega arith) (λ z. n (omega arith)) (λ z. omega arith))
-      (set-kept l j g few long (allAt k) (omega arith) (λ z. n (omega arith)))
-      (number-kept l j g few long (sharedAt k) (omega arith) (λ z. omega arith) (λ z. n (omega arith)))
+  column-other k i h other =
+      column-kept (set-kept l j g few long k (omega arith) (λ z. omega arith)) (set-kept l j g few long (allAt k) (omega arith) (λ z. other (omega arith)))
+      (λ q n e. number-kept l j g few long q (omega arith) (λ m b z. other (omega arith)))
 
   -- and its own
   column-same : (i : ℕ) → aboveOn l j ≡ unionOf (ecbOn board) (hp (j + 1)) → evictingOn l j ≡ size (ecbOn board j)
       → Carried (ucbOn board) (unionOf (ecbOn board) (hp (j + 1))) j i g → Column board (gatheredPut l j g) j i
   column-same i a e c = record {
     above = ap members (set-kept l j g few long j (omega arith) (λ z. omega arith)) ∙ a;
-    evicting = number-kept l j g few long (256 + j) (omega arith) (λ z. omega arith) (λ z. omega arith) ∙ e;
+    evicting = number-kept l j g few long (256 + j) (omega arith) (λ n b z. omega arith) ∙ e;
     gathered = rw (put-same l j g few long) c;
   }
 
@@ -154,7 +195,7 @@ module _ (board l : List ℕ) (i : ℕ) (all : CacheSet) (n : ℕ) (few : i < 32
   abbrev sized : List ℕ
   sized = set ecbs-in (256 + i) n
 
-  pub sized-long : length sized ≡ 352
+  pub sized-long : length sized ≡ 416
   sized-long = simp length-set (stored-long l i all ∙ p .long)
 
   number-still : (q : ℕ) → 256 ≤ q → (q ≡ 256 + i → ⊥) → getD sized q 0 ≡ getD l q 0
@@ -165,12 +206,11 @@ module _ (board l : List ℕ) (i : ℕ) (all : CacheSet) (n : ℕ) (few : i < 32
 
   column-still : (k : ℕ) → k < i → Column board sized k (i + 1)
   column-still k h =
-      column-kept (set-still k (omega arith) (λ z. omega arith)) (number-still (256 + k) (omega arith) (λ z. omega arith))
-      (number-still (mostAt k) (omega arith) (λ z. omega arith)) (set-still (allAt k) (omega arith) (λ z. omega arith))
-      (number-still (sharedAt k) (omega arith) (λ z. omega arith)) (p .past k h)
+      column-kept (set-still k (omega arith) (λ z. omega arith)) (set-still (allAt k) (omega arith) (λ z. omega arith))
+      (λ q m e. number-still q (omega arith) (λ z. omega arith)) (p .past k h)
 
   pub ledger-next : members all ≡ unionOf (ecbOn board) (hp (i + 1)) → n ≡ size (ecbOn board i)
-      → Ledger board (i + 1) (gatheredPut sized i (record { most = record { 0 = 0 }; all = noSets; shared = record { 0 = 0 } }))
+      → Ledger board (i + 1) (gatheredPut sized i (ungathered i))
   ledger-next a e = record {
     long = put-long sized i _ few sized-long;
     columns = below-more (λ k. Column board (gatheredPut sized i _) k (i + 1)) i
@@ -184,11 +224,12 @@ module _ (board l : List ℕ) (i : ℕ) (all : CacheSet) (n : ℕ) (few : i < 32
 -- ---- the weights
 
 -- those of one task
-pub pair-weighed : (board : List ℕ) (i j : ℕ) (evicting : Set) (g : Gathered) {x y : List ℕ}
+pub pair-weighed : (board : List ℕ) (i j : ℕ) (evicting : Set) (g : Gathered) {x y : List ℕ} → j < i
     → Carried (ucbOn board) (unionOf (ecbOn board) (hp (j + 1))) j (i + 1) g → evicting ≡ ecbOn board j
-    → Put (InPair j 5) (λ m _. workOn board j + brtOn board * getD (reloadCountsOf evicting g) m 0) x y
+    → Put (InPair j 5) (λ m _. workOn board j + brtOn board * countFor evicting g m) x y
     → Put (InPair j 5) (λ m b. weightOn board m i b) x y
 unfolding reloadsOf
-pair-weighed board i j evicting g c e p =
-    put-as p (λ m b q. ap (λ (ns : List ℕ). workOn board j + brtOn board * getD ns m 0) (counted (ucbOn board) _ j (ecbOn board) evicting i g c e refl)
+pair-weighed board i j evicting g h c e p =
+    put-as p (λ m b q. ap (λ (cs : List Charge). workOn board j + brtOn board * reloadsIn (getD cs m (noVictim 0)))
+    (charged (ucbOn board) _ j (ecbOn board) evicting i g h c e refl)
     ∙ ap (λ (b : ℕ). weightOn board m i b) (sym (q .1)))

@@ -5,12 +5,12 @@ use native.Mathlib.Omega.{arith}
 use mathlib.Core.Path.{_≡_, refl, ap, _∙_}
 use mathlib.Core.Logic.{_⊎_, inl, inr, ⊎-elim}
 use mathlib.Core.List.{List}
-use lib.ListN.{length, getD, set, length-set}
+use lib.ListN.{length, set, length-set}
 use lib.Seq.{getD-set-same, getD-set-other}
 use Rattle.sets.specs.Sets.{Set, _∩_, size}
 use Rattle.sets.specs.Words.{members}
 use Rattle.carried.specs.declared.Gathered.{Gathered}
-use Rattle.carried.specs.Carried.{reloadCountsOf, weightAt, Put, InPair, InRow}
+use Rattle.carried.specs.Carried.{countFor, weightAt, Put, InPair, InRow}
 
 put-none : (I : ℕ → ℕ → Type 0) (w : ℕ → ℕ → ℕ) (x : List ℕ) → length x ≡ 160 → ((m b : ℕ) → I m b → ⊥) → Put I w x x
 put-none I w x long empty = record { long = long; each = λ m b p. absurd (empty m b p); others = λ p n. refl }
@@ -71,15 +71,15 @@ module _ (j : ℕ) (column : j < 32) where
   pair-next {y = y} n h p z v e q = put-then (pair-joins n) p (single-put y z n j v (p .long) h column e q)
 
   -- the five weights of the code
-  pub pair-put : (u v x y z s : List ℕ) (work brt evicting hit : ℕ) (ecb : Set) (g : Gathered) → length u ≡ 160
+  pub pair-put : (u v x y z s : List ℕ) (work brt evicting evicted : ℕ) (ecb : Set) (g : Gathered) → length u ≡ 160
       → v ≡ set u (weightAt 0 j) (work + brt * 0)
       → x ≡ set v (weightAt 1 j) (work + brt * evicting) → evicting ≡ size ecb
-      → y ≡ set x (weightAt 2 j) (work + brt * g .most .0)
-      → z ≡ set y (weightAt 3 j) (work + brt * hit) → hit ≡ size (members (g .all) ∩ ecb)
-      → s ≡ set z (weightAt 4 j) (work + brt * g .shared .0)
-      → Put (InPair j 5) (λ m _. work + brt * getD (reloadCountsOf ecb g) m 0) u s
-  pair-put u v x y z s work brt evicting hit ecb g long e0 e1 q1 e2 e3 q3 e4 =
-      let w : ℕ → ℕ → ℕ = λ m _. work + brt * getD (reloadCountsOf ecb g) m 0 in
+      → y ≡ set x (weightAt 2 j) (work + brt * g .most .reloads .0)
+      → z ≡ set y (weightAt 3 j) (work + brt * evicted) → evicted ≡ size (members (g .all) ∩ ecb)
+      → s ≡ set z (weightAt 4 j) (work + brt * g .shared .reloads .0)
+      → Put (InPair j 5) (λ m _. work + brt * countFor ecb g m) u s
+  pair-put u v x y z s work brt evicting evicted ecb g long e0 e1 q1 e2 e3 q3 e4 =
+      let w : ℕ → ℕ → ℕ = λ m _. work + brt * countFor ecb g m in
       let p0 : Put (InPair j 0) w u u = put-none _ _ u long (λ m b p. omega arith) in
       let p1 : Put (InPair j 1) w u v = pair-next 0 (omega arith) p0 v _ e0 refl in
       let p2 : Put (InPair j 2) w u x = pair-next 1 (omega arith) p1 x _ e1 (ap (λ (n : ℕ). work + brt * n) q1) in

@@ -1,13 +1,15 @@
--- What is carried down the rows of a report: the ledger, one list of 352 numbers, and the weights of one row that it gives. Each kind of
+-- What is carried down the rows of a report: the ledger, one list of 416 numbers, and the weights of one row that it gives. Each kind of
 -- number or set has 32 places on the ledger, one for each task, and a set has four words:
 --
 --     from     0   the union of the ECBs down to the task's own
 --            128   the union of the UCBs that is gathered for it
 --            256   the size of its ECB
 --            288   the largest size of a UCB that is gathered for it
---            320   the most that one of these UCBs shares with the union of the ECBs
+--            320   the first position that has it
+--            352   the most that one of these UCBs shares with the union of the ECBs
+--            384   the first position that has it
 --
-use Prim.Native.Nat.{ℕ, _+_, _*_, _≤_, _<_, max}
+use Prim.Native.Nat.{ℕ, _+_, _*_, _≤_, _<_}
 use mathlib.Core.Path.{_≡_}
 use mathlib.Core.List.{List, [], _∷_}
 use lib.ListN.{length, getD, set}
@@ -17,31 +19,38 @@ use Rattle.sets.specs.Stored.{heldAt, storedAt, setAt}
 use Rattle.demand.specs.Positions.{between, hp}
 use Rattle.board.specs.Board.{ucbOn, ecbOn}
 use Rattle.carried.specs.declared.Gathered.{Gathered}
-use Rattle.costs.specs.Gather.{unionOf, largestOf}
-use Rattle.costs.specs.Costs.{weightOn}
+use Rattle.costs.specs.declared.Hit.{Hit}
+use Rattle.costs.specs.declared.Charge.{Charge}
+use Rattle.costs.specs.declared.Charge.the-variants.{Victim}
+use Rattle.costs.specs.Gather.{unionOf, hit, largerOf, largestFrom}
+use Rattle.costs.specs.Costs.{noVictim, reloadsIn, weightOn}
 
 -- ---- what is gathered for a task
 
--- one UCB more
-pub record Next (g : Gathered) (ucb above : Set) (r : Gathered) : Type 0 where
-  pub most : r .most .0 ≡ max (g .most .0) (size ucb)
+-- one UCB more, that of the task at i
+pub record Next (g : Gathered) (ucb above : Set) (i : ℕ) (r : Gathered) : Type 0 where
+  pub most : r .most ≡ largerOf (g .most) (hit (size ucb) i)
   pub all : members (r .all) ≡ members (g .all) ∪ ucb
-  pub shared : r .shared .0 ≡ max (g .shared .0) (size (ucb ∩ above))
+  pub shared : r .shared ≡ largerOf (g .shared) (hit (size (ucb ∩ above)) i)
 
 -- before row i: what is gathered for j over the positions from j + 1 on and below i
 pub record Carried (U : ℕ → Set) (above : Set) (j i : ℕ) (g : Gathered) : Type 0 where
-  pub most : g .most .0 ≡ largestOf (λ k. size (U k)) (between (j + 1) i)
+  pub most : g .most ≡ largestFrom (j + 1) (λ k. size (U k)) (between (j + 1) i)
   pub all : members (g .all) ≡ unionOf U (between (j + 1) i)
-  pub shared : g .shared .0 ≡ largestOf (λ k. size (U k ∩ above)) (between (j + 1) i)
+  pub shared : g .shared ≡ largestFrom (j + 1) (λ k. size (U k ∩ above)) (between (j + 1) i)
 
 -- no count is above what a product by the block reload time may have
 pub record Small (g : Gathered) : Type 0 where
-  pub most : g .most .0 ≤ 2048
-  pub shared : g .shared .0 ≤ 2048
+  pub most : g .most .reloads .0 ≤ 2048
+  pub shared : g .shared .reloads .0 ≤ 2048
 
--- the reload counts of the methods 0 to 4 for a task with this ECB
-abbrev pub reloadCountsOf : Set → Gathered → List ℕ
-reloadCountsOf ecb g = 0 ∷ size ecb ∷ g .most .0 ∷ size (members (g .all) ∩ ecb) ∷ g .shared .0 ∷ []
+-- the charges of the methods 0 to 4 for a task with this ECB
+abbrev pub chargesFor : Set → Gathered → List Charge
+chargesFor ecb g = noVictim 0 ∷ noVictim (size ecb) ∷ Victim (g .most) ∷ noVictim (size (members (g .all) ∩ ecb)) ∷ Victim (g .shared) ∷ []
+
+-- the reload count among them under method m
+abbrev pub countFor : Set → Gathered → ℕ → ℕ
+countFor ecb g m = reloadsIn (getD (chargesFor ecb g) m (noVictim 0))
 
 -- ---- where it stands
 
@@ -53,7 +62,7 @@ aboveOn ledger j = setAt ledger j
 abbrev pub evictingOn : List ℕ → ℕ → ℕ
 evictingOn ledger j = getD ledger (256 + j) 0
 
--- the positions of what is gathered for it: of the union among sets of four words, and of the two counts
+-- the positions of what is gathered for it: of the union among sets of four words, and of the two hits
 abbrev pub allAt : ℕ → ℕ
 allAt j = 32 + j
 
@@ -61,18 +70,21 @@ abbrev pub mostAt : ℕ → ℕ
 mostAt j = 288 + j
 
 abbrev pub sharedAt : ℕ → ℕ
-sharedAt j = 320 + j
+sharedAt j = 352 + j
+
+-- a hit at p: the count, and 32 places on the victim
+abbrev pub hitOn : List ℕ → ℕ → Hit
+hitOn ledger p = hit (getD ledger p 0) (getD ledger (32 + p) 0)
+
+abbrev pub hitPut : List ℕ → ℕ → Hit → List ℕ
+hitPut ledger p h = set (set ledger p (h .reloads .0)) (32 + p) (h .victim)
 
 abbrev pub gatheredOn : List ℕ → ℕ → Gathered
-gatheredOn ledger j = record {
-  most = record { 0 = getD ledger (mostAt j) 0 };
-  all = heldAt ledger (allAt j);
-  shared = record { 0 = getD ledger (sharedAt j) 0 };
-}
+gatheredOn ledger j = record { most = hitOn ledger (mostAt j); all = heldAt ledger (allAt j); shared = hitOn ledger (sharedAt j) }
 
 -- the ledger with what is gathered for j put in
 abbrev pub gatheredPut : List ℕ → ℕ → Gathered → List ℕ
-gatheredPut ledger j g = set (storedAt (set ledger (mostAt j) (g .most .0)) (allAt j) (g .all)) (sharedAt j) (g .shared .0)
+gatheredPut ledger j g = hitPut (storedAt (hitPut ledger (mostAt j) (g .most)) (allAt j) (g .all)) (sharedAt j) (g .shared)
 
 -- the column of the task at j before row i
 pub record Column (board ledger : List ℕ) (j i : ℕ) : Type 0 where
@@ -82,12 +94,12 @@ pub record Column (board ledger : List ℕ) (j i : ℕ) : Type 0 where
 
 -- the ledger before row i: a column for each task above it
 pub record Ledger (board : List ℕ) (i : ℕ) (ledger : List ℕ) : Type 0 where
-  pub long : length ledger ≡ 352
+  pub long : length ledger ≡ 416
   pub columns : (j : ℕ) → j < i → Column board ledger j i
 
 -- inside row i: the columns before j are carried past it, the others down to it
 pub record Passing (board : List ℕ) (i j : ℕ) (ledger : List ℕ) : Type 0 where
-  pub long : length ledger ≡ 352
+  pub long : length ledger ≡ 416
   pub past : (k : ℕ) → k < j → Column board ledger k (i + 1)
   pub ahead : (k : ℕ) → j ≤ k → k < i → Column board ledger k i
 

@@ -4,19 +4,20 @@ use board::BRT;
 use board::ECBS;
 use board::UCBS;
 use board::WORKS;
+use costs::Hit;
 use sets::CacheSet;
 use units::Reloads;
 use units::Ticks;
 ghost use mathlib.Core.Path.{_≡_};
 ghost use Prim.Native.Nat.{_+_, _*_, _<_, _≤_};
-ghost use lib.ListN.{length, getD, set};
+ghost use lib.ListN.{length, set};
 ghost use Rattle.sets.specs.Sets.{size};
 ghost use Rattle.sets.specs.Words.{members};
 ghost use Rattle.board.specs.Board.{Lent};
-ghost use Rattle.carried.specs.Carried.{Next, Small, reloadCountsOf, gatheredOn, gatheredPut, Ledger, Passing, weightAt, Put, InPair, RowWeighed};
+ghost use Rattle.carried.specs.Carried.{Next, Small, countFor, hitOn, hitPut, gatheredOn, gatheredPut, Ledger, Passing, weightAt, Put, InPair, RowWeighed};
 
 // How many numbers a ledger has.
-pub const LEDGER: usize = 352;
+pub const LEDGER: usize = 416;
 
 // How many weights a row has: 32 under each of the methods 0 to 4.
 pub const WEIGHTS: usize = 160;
@@ -31,47 +32,77 @@ const EVICTING: usize = 256;
 const LARGEST: usize = 288;
 
 // Where the largest shared sizes start.
-const SHARED: usize = 320;
+const SHARED: usize = 352;
+
+// How far behind a count its victim stands.
+const VICTIM: usize = 32;
 
 // What is gathered for the task at j over the positions below it, down to a row: the largest UCB, the union of the UCBs, and the most that one
-// UCB shares with the ECBs of j and all above it.
+// UCB shares with the ECBs of j and all above it; of the two largest, whose they are.
 struct Gathered {
-    most: Reloads,
+    most: Hit,
     all: CacheSet,
-    shared: Reloads,
+    shared: Hit,
 }
 
-// One row more, with its UCB and the size of that.
-fn gather(gathered: Gathered, ucb: CacheSet, useful: Reloads, above: CacheSet) -> Gathered
-    requires { ⌜ useful .0 ≡ size (members ucb) ⌝ }
-    ensures { λ r. ⌜ Next gathered (members ucb) (members above) r ⌝ }
+// One row more, with its UCB, and as `useful` the size of that and the row's position.
+fn gather(gathered: Gathered, ucb: CacheSet, useful: Hit, above: CacheSet) -> Gathered
+    requires { ⌜ useful .reloads .0 ≡ size (members ucb) ⌝ }
+    ensures { λ r. ⌜ Next gathered (members ucb) (members above) (useful .victim) r ⌝ }
 {
     let all = gathered.all.union(ucb);
     let most = costs::larger(gathered.most, useful);
-    let shared = costs::larger(gathered.shared, ucb.shared_size(useful, above));
+    let reloads = ucb.shared_size(useful.reloads, above);
+    let shared = costs::larger(
+        gathered.shared,
+        Hit {
+            reloads,
+            victim: useful.victim,
+        },
+    );
     Gathered { most, all, shared }
+}
+
+// The hit that stands at a place of the ledger.
+fn hit_at(ledger: &[u64], place: usize) -> Hit
+    requires { ⌜ (place < 384) × (length (now ledger) ≡ 416) ⌝ }
+    ensures { λ r. ⌜ r ≡ hitOn (now (ledger .entry)) place ⌝ }
+{
+    Hit {
+        reloads: Reloads(ledger[place]),
+        victim: ledger[VICTIM + place] as usize,
+    }
+}
+
+// Puts a hit in at a place.
+fn keep_hit(ledger: &mut [u64; LEDGER], place: usize, hit: Hit)
+    requires { ⌜ (place < 384) × (length (now ledger) ≡ 416) ⌝ }
+    ensures { λ _. ⌜ now (ledger .exit) ≡ hitPut (now (ledger .entry)) place hit ⌝ }
+{
+    ledger[place] = hit.reloads.0;
+    ledger[VICTIM + place] = hit.victim as u64;
 }
 
 // What the ledger has gathered for the task at j.
 fn gathered_for(ledger: &[u64], j: usize) -> Gathered
-    requires { ⌜ (j < 32) × (length (now ledger) ≡ 352) ⌝ }
+    requires { ⌜ (j < 32) × (length (now ledger) ≡ 416) ⌝ }
     ensures { λ r. ⌜ r ≡ gatheredOn (now (ledger .entry)) j ⌝ }
 {
     Gathered {
-        most: Reloads(ledger[LARGEST + j]),
+        most: hit_at(ledger, LARGEST + j),
         all: CacheSet::at(ledger, ALL + j),
-        shared: Reloads(ledger[SHARED + j]),
+        shared: hit_at(ledger, SHARED + j),
     }
 }
 
 // Puts in what is gathered for the task at j.
 fn keep(ledger: &mut [u64; LEDGER], j: usize, gathered: Gathered)
-    requires { ⌜ (j < 32) × (length (now ledger) ≡ 352) ⌝ }
+    requires { ⌜ (j < 32) × (length (now ledger) ≡ 416) ⌝ }
     ensures { λ _. ⌜ now (ledger .exit) ≡ gatheredPut (now (ledger .entry)) j gathered ⌝ }
 {
-    ledger[LARGEST + j] = gathered.most.0;
+    keep_hit(ledger, LARGEST + j, gathered.most);
     gathered.all.store(ledger, ALL + j);
-    ledger[SHARED + j] = gathered.shared.0;
+    keep_hit(ledger, SHARED + j, gathered.shared);
 }
 
 // Puts in the weight of j under a method: `work` ticks and `n` reloads.
@@ -94,14 +125,14 @@ fn put_pair(
     brt: Ticks,
 )
     requires { ⌜ (j < 32) × (work .0 ≤ 250000000) × (brt .0 ≤ 100000) × (evicting .0 ≡ size (members ecb)) × Small gathered × (length (now weights) ≡ 160) ⌝ }
-    ensures { λ _. ⌜ Put (InPair j 5) (λ m _. work .0 + brt .0 * getD (reloadCountsOf (members ecb) gathered) m 0) (now (weights .entry)) (now (weights .exit)) ⌝ }
+    ensures { λ _. ⌜ Put (InPair j 5) (λ m _. work .0 + brt .0 * countFor (members ecb) gathered m) (now (weights .entry)) (now (weights .exit)) ⌝ }
 {
-    let hit = gathered.all.intersection(ecb).size();
+    let evicted = gathered.all.intersection(ecb).size();
     put(weights, 0, j, work, Reloads(0), brt);
     put(weights, 1, j, work, evicting, brt);
-    put(weights, 2, j, work, gathered.most, brt);
-    put(weights, 3, j, work, hit, brt);
-    put(weights, 4, j, work, gathered.shared, brt);
+    put(weights, 2, j, work, gathered.most.reloads, brt);
+    put(weights, 3, j, work, evicted, brt);
+    put(weights, 4, j, work, gathered.shared.reloads, brt);
 }
 
 // Adds the column of the task at i, below all that have one: the union of the ECBs down to its own, the size of its own, and nothing gathered.
@@ -111,13 +142,14 @@ fn add_column(board: &[u64], i: usize, ledger: &mut [u64; LEDGER])
 {
     costs::union_over(board, ECBS, 0, i + 1).store(ledger, i);
     ledger[EVICTING + i] = CacheSet::at(board, ECBS + i).size().0;
+    let none = Hit::none(i + 1);
     keep(
         ledger,
         i,
         Gathered {
-            most: Reloads(0),
+            most: none,
             all: CacheSet::EMPTY,
-            shared: Reloads(0),
+            shared: none,
         },
     );
 }
@@ -130,7 +162,10 @@ pub fn weigh_row(board: &[u64], i: usize, ledger: &mut [u64; LEDGER], weights: &
 {
     let brt = Ticks(board[BRT]);
     let marks = CacheSet::at(board, UCBS + i);
-    let useful = marks.size();
+    let useful = Hit {
+        reloads: marks.size(),
+        victim: i,
+    };
     for j in 0..i {
         let above = CacheSet::at(ledger, j);
         let gathered = gathered_for(ledger, j);

@@ -10,17 +10,21 @@ use Rattle.demand.specs.Terms.{periodIn, jitterIn, termIn, InRange, Handed}
 use Rattle.table.specs.declared.Table.{Table}
 use Rattle.board.specs.Board.{ownOn, limitOn, ucbOn, ecbOn, BoardOf, Lent}
 use Rattle.board.proofs.LentLaws.{lent-few, lent-long, lent-ranged}
-use Rattle.costs.specs.Costs.{ucbOf, ecbOf, weightOn, termAt, termOn}
-use Rattle.costs.proofs.OrderLaws.{reloads-same, term-ranged}
+use Rattle.costs.specs.declared.Charge.{Charge}
+use Rattle.costs.specs.Costs.{reloadsIn, reloadsOf, ucbOf, ecbOf, chargeAt, termAt, chargeOn, weightOn, termOn}
+use Rattle.costs.proofs.CostLaws.{charge-same}
+use Rattle.costs.proofs.OrderLaws.{term-ranged}
 
 module _ (table : Table) (n : ℕ) (board : List ℕ) (is : BoardOf table n board) (m i j : ℕ) (here : i < n) (above : j < i) where
+  pub charge-is : chargeOn board m i j ≡ chargeAt table m i j
+  charge-is =
+      charge-same (ucbOn board) (ecbOn board) (ucbOf table) (ecbOf table) m i j above
+      (λ k l. ap members (is .tasks k (omega arith) .ucb)) (λ k l. ap members (is .tasks k (omega arith) .ecb))
+
   weight-is : weightOn board m i j ≡ termAt table m i j .weight
+  unfolding reloadsOf
   weight-is =
-      rw (is .brt)
-      (ap₂ (λ (c g : ℕ). c + table .brt .0 * g) (is .tasks j (omega arith) .work)
-      (reloads-same (ucbOn board) (ecbOn board) (ucbOf table) (ecbOf table) m i j above
-      (λ k l. ap members (is .tasks k (omega arith) .ucb))
-      (λ k l. ap members (is .tasks k (omega arith) .ecb))))
+      rw (is .brt) (ap₂ (λ (c : ℕ) (g : Charge). c + table .brt .0 * reloadsIn g) (is .tasks j (omega arith) .work) charge-is)
 
   pub term-is : termOn board m i j ≡ termAt table m i j
   term-is = rw (is .tasks j (omega arith) .period, is .tasks j (omega arith) .jitter, weight-is)

@@ -1,9 +1,8 @@
 -- A harder table has no smaller costs. Assumes nothing.
 use Prim.Native.Nat.{ℕ, zero, suc, _+_, _≤_, _<_, max, zero-le}
-use native.Mathlib.Nat.{le-antisymm, mul-le-mul}
+use native.Mathlib.Nat.{mul-le-mul}
 use native.Mathlib.Omega.{arith}
-use mathlib.Core.Path.{_≡_}
-use Rattle.sets.specs.Sets.{Set, ∅, _∪_, _⊆_}
+use Rattle.sets.specs.Sets.{Set, ∅, _∪_, _∩_, _⊆_, size}
 use Rattle.sets.proofs.SetLaws.{union-left, union-right, union-least, size-mono, size-inter-left, size-inter-right, size-inter-mono}
 use Rattle.demand.specs.Positions.{hp}
 use Rattle.demand.specs.Demand.{NoMore}
@@ -12,9 +11,10 @@ use Rattle.demand.proofs.PositionLaws.{Rising, place-lt, place-le, Grows, gathe
 use Rattle.table.specs.declared.Table.{Table}
 use Rattle.table.specs.Tasks.{at}
 use Rattle.table.specs.Accepted.{AcceptedTable}
-use Rattle.costs.specs.Gather.{unionOf}
+use Rattle.costs.specs.Gather.{aff, unionOf, largestAt}
 use Rattle.costs.specs.Costs.{ucbOf, ecbOf, reloadsOf, termAt}
 use Rattle.costs.specs.Harder.{Harder, HarderBy}
+use Rattle.costs.proofs.HitLaws.{hit-grows}
 use Rattle.costs.proofs.CostLaws.{reloads-most}
 
 max-grows : Grows max _≤_
@@ -38,6 +38,13 @@ module _ (place : ℕ → ℕ) (rises : Rising place) (U E U′ E′ : ℕ → S
   in-aff : (k : ℕ) → k < i + 1 → place k < place i + 1
   in-aff k l = omega (arith, place-le place rises k i (omega arith))
 
+  largest-by : (F G : ℕ → ℕ) → ((k : ℕ) → k ≤ i → F k ≤ G (place k))
+      → largestAt F (aff i j) .reloads .0 ≤ largestAt G (aff (place i) (place j)) .reloads .0
+  largest-by F G f =
+      hit-grows _ _ F G _ _
+      (gathered max-grows place rises 0 0 (omega arith) F G (j + 1) (place j + 1) next-place (i + 1) (place i + 1)
+      (λ k h l. (in-aff k l, f k (omega arith))))
+
   evicted : unionOf E (hp (j + 1)) ⊆ unionOf E′ (hp (place j + 1))
   evicted =
       gathered union-grows place rises ∅ ∅ (λ s h. h) E E′ 0 0 zero-le (j + 1) (place j + 1)
@@ -47,25 +54,15 @@ module _ (place : ℕ → ℕ) (rises : Rising place) (U E U′ E′ : ℕ → S
   unfolding reloadsOf
   reloads-by zero = omega arith
   reloads-by (suc zero) = size-mono _ _ (e j (omega arith))
-  reloads-by (suc (suc zero)) =
-      gathered max-grows place rises 0 0 (omega arith) _ _ (j + 1) (place j + 1) next-place (i + 1) (place i + 1)
-      (λ k h l. (in-aff k l, size-mono _ _ (u k (omega arith))))
+  reloads-by (suc (suc zero)) = largest-by (λ k. size (U k)) (λ k. size (U′ k)) (λ k l. size-mono _ _ (u k l))
   reloads-by (suc (suc (suc zero))) =
       size-inter-mono _ _ _ _
       (gathered union-grows place rises ∅ ∅ (λ s h. h) U U′ (j + 1) (place j + 1) next-place (i + 1) (place i + 1) (λ k h l. (in-aff k l, u k (omega arith))))
       (e j (omega arith))
   reloads-by (suc (suc (suc (suc zero)))) =
-      gathered max-grows place rises 0 0 (omega arith) _ _ (j + 1) (place j + 1) next-place (i + 1) (place i + 1)
-      (λ k h l. (in-aff k l, size-inter-mono _ _ _ _ (u k (omega arith)) evicted))
+      largest-by (λ k. size (U k ∩ unionOf E (hp (j + 1)))) (λ k. size (U′ k ∩ unionOf E′ (hp (place j + 1))))
+      (λ k l. size-inter-mono _ _ _ _ (u k l) evicted)
   reloads-by (suc (suc (suc (suc (suc m))))) = omega arith
-
--- only the sets down to i count
-pub reloads-same : (U E U′ E′ : ℕ → Set) (m i j : ℕ) → j < i → ((k : ℕ) → k ≤ i → U k ≡ U′ k) → ((k : ℕ) → k ≤ i → E k ≡ E′ k)
-    → reloadsOf U E m i j ≡ reloadsOf U′ E′ m i j
-reloads-same U E U′ E′ m i j h u e =
-    le-antisymm
-    (reloads-by (λ k. k) (λ k. omega arith) U E U′ E′ i j h (λ k l. rw (u k l) (λ s p. p)) (λ k l. rw (e k l) (λ s p. p)) m)
-    (reloads-by (λ k. k) (λ k. omega arith) U′ E′ U E i j h (λ k l. rw (u k l) (λ s p. p)) (λ k l. rw (e k l) (λ s p. p)) m)
 
 -- ---- the two unions never count more than what they are unions for
 
@@ -77,7 +74,9 @@ module _ (U E : ℕ → Set) (i j : ℕ) where
   pub ecb-union-least : reloadsOf U E 4 i j ≤ reloadsOf U E 2 i j
   unfolding reloadsOf
   ecb-union-least =
-      gathered max-grows (λ k. k) (λ k. omega arith) 0 0 (omega arith) _ _ (j + 1) (j + 1) (omega arith) (i + 1) (i + 1) (λ k h l. (l, size-inter-left _ _))
+      hit-grows _ _ _ _ _ _
+      (gathered max-grows (λ k. k) (λ k. omega arith) 0 0 (omega arith) (λ k. size (U k ∩ unionOf E (hp (j + 1)))) (λ k. size (U k)) (j + 1) (j + 1) (omega arith)
+      (i + 1) (i + 1) (λ k h l. (l, size-inter-left _ _)))
 
 -- ---- the terms of accepted tables
 

@@ -1,4 +1,4 @@
--- Reload counts, and what the tasks of higher priority ask for.
+-- Reload counts with whom they hit, and what the tasks of higher priority ask for.
 use Prim.Native.Nat.{ℕ, _+_, _*_}
 use mathlib.Core.List.{List, [], _∷_}
 use lib.ListN.{getD}
@@ -10,20 +10,34 @@ use Rattle.demand.specs.Terms.{periodIn, jitterIn}
 use Rattle.table.specs.declared.Table.{Table}
 use Rattle.table.specs.Tasks.{at}
 use Rattle.board.specs.Board.{workOn, ucbOn, ecbOn, brtOn}
-use Rattle.costs.specs.Gather.{aff, unionOf, largestOf}
+use Rattle.costs.specs.declared.Charge.{Charge}
+use Rattle.costs.specs.declared.Charge.the-variants.{Victim, NoVictim}
+use Rattle.costs.specs.Gather.{aff, unionOf, largestAt}
 
--- g(i, j) under each of the methods 0 to 4, where U k and E k are the UCB and the ECB of the task at k
-abbrev pub reloadCounts : (ℕ → Set) → (ℕ → Set) → ℕ → ℕ → List ℕ
-reloadCounts U E i j =
-    0
-    ∷ size (E j)
-    ∷ largestOf (λ k. size (U k)) (aff i j)
-    ∷ size (unionOf U (aff i j) ∩ E j)
-    ∷ largestOf (λ k. size (U k ∩ unionOf E (hp (j + 1)))) (aff i j)
+-- a count that no one task has
+abbrev pub noVictim : ℕ → Charge
+noVictim n = NoVictim (record { 0 = n })
+
+-- g(i, j) under each of the methods 0 to 4, where U k and E k are the UCB and the ECB of the task at k; under 2 and 4 with the task that it hits
+abbrev pub charges : (ℕ → Set) → (ℕ → Set) → ℕ → ℕ → List Charge
+charges U E i j =
+    noVictim 0
+    ∷ noVictim (size (E j))
+    ∷ Victim (largestAt (λ k. size (U k)) (aff i j))
+    ∷ noVictim (size (unionOf U (aff i j) ∩ E j))
+    ∷ Victim (largestAt (λ k. size (U k ∩ unionOf E (hp (j + 1)))) (aff i j))
     ∷ []
 
+abbrev pub chargeOf : (ℕ → Set) → (ℕ → Set) → ℕ → ℕ → ℕ → Charge
+chargeOf U E m i j = getD (charges U E i j) m (noVictim 0)
+
+-- how many reloads a charge has
+abbrev pub reloadsIn : Charge → ℕ
+reloadsIn (Victim h) = h .reloads .0
+reloadsIn (NoVictim n) = n .0
+
 unfoldable pub reloadsOf : (ℕ → Set) → (ℕ → Set) → ℕ → ℕ → ℕ → ℕ
-reloadsOf U E m i j = getD (reloadCounts U E i j) m 0
+reloadsOf U E m i j = reloadsIn (chargeOf U E m i j)
 
 -- what one activation of j asks for while i is pending: its own work, and the time of its reloads
 abbrev pub weightOf : (ℕ → ℕ) → ℕ → (ℕ → Set) → (ℕ → Set) → ℕ → ℕ → ℕ → ℕ
@@ -37,15 +51,19 @@ ucbOf table k = members (at table k .ucb)
 abbrev pub ecbOf : Table → ℕ → Set
 ecbOf table k = members (at table k .ecb)
 
--- what the task at j asks for while i is pending, under method m
+-- what an activation of the task at j is charged while i is pending, under method m
+abbrev pub chargeAt : Table → ℕ → ℕ → ℕ → Charge
+chargeAt table = chargeOf (ucbOf table) (ecbOf table)
+
+-- what that task asks for
 abbrev pub termAt : Table → ℕ → ℕ → ℕ → Term
 termAt table m i j =
     termOf (at table j .period .0) (at table j .jitter .0) (weightOf (λ k. at table k .work .0) (table .brt .0) (ucbOf table) (ecbOf table) m i j)
 
 -- ---- of the tasks on a board
 
-abbrev pub reloadsOn : List ℕ → ℕ → ℕ → ℕ → ℕ
-reloadsOn board = reloadsOf (ucbOn board) (ecbOn board)
+abbrev pub chargeOn : List ℕ → ℕ → ℕ → ℕ → Charge
+chargeOn board = chargeOf (ucbOn board) (ecbOn board)
 
 abbrev pub weightOn : List ℕ → ℕ → ℕ → ℕ → ℕ
 weightOn board = weightOf (workOn board) (brtOn board) (ucbOn board) (ecbOn board)

@@ -51,6 +51,15 @@ map-same f g (suc n) h =
     ∙ sym (map-next g n)
     ∙ ap (λ (k : ℕ). map g (hp k)) (add-one n)
 
+-- the first of them
+run-first : (a n d : ℕ) → getD (run a (suc n)) 0 d ≡ a
+unfolding run
+run-first a zero d = omega arith
+run-first a (suc n) d = List·getD-append (run a (suc n)) ((a + suc n) ∷ []) d 0 (omega (arith, run-long a (suc n))) ∙ run-first a n d
+
+pub between-first : (a b d : ℕ) → a < b → getD (between a b) 0 d ≡ a
+between-first a b d h = let e : b - a ≡ suc (b - a - 1) = omega arith in rw e (run-first a (b - a - 1) d)
+
 module _ {B : Type 0} (op : B → B → B) where
   fold-snoc : (z : B) (F : ℕ → B) (ks : List ℕ) (k : ℕ) → fold op z F (ks ++ (k ∷ [])) ≡ op (fold op z F ks) (F k)
   unfolding fold
@@ -88,6 +97,14 @@ pub fold-keeps : {B : Type 0} (op : B → B → B) (P : B → Type 0) (z : B) (F
 unfolding fold
 fold-keeps op P z F [] start step = start
 fold-keeps op P z F (k ∷ ks) start step = fold-keeps op P (op z (F k)) F ks (step z k start) step
+
+-- a part of what is gathered, where the part of two put together is that of the parts
+pub fold-part : {B C : Type 0} (op : B → B → B) (op′ : C → C → C) (part : B → C) → ((a b : B) → part (op a b) ≡ op′ (part a) (part b))
+    → (z : B) (F : ℕ → B) (ks : List ℕ) → part (fold op z F ks) ≡ fold op′ (part z) (λ k. part (F k)) ks
+unfolding fold
+fold-part op op′ part h z F [] = refl
+fold-part {C = C} op op′ part h z F (k ∷ ks) =
+    fold-part op op′ part h (op z (F k)) F ks ∙ ap (λ (c : C). fold op′ c (λ l. part (F l)) ks) (h z (F k))
 
 -- ---- gathering over more positions, where more stands
 

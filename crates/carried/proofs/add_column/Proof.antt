@@ -12,19 +12,19 @@ use Rattle.carried.proofs.add_column.Tie as tie
 
 keep-requires : tie.Need-keep-requires
 keep-requires c κs =
-    let stored = c .before .before .before in
+    let stored = c .before .before .before .before in
     let s = stored .before .before .before .before in
     let few = lent-few (s .pre .0) in
     (omega arith, rw (stored .store .ensures) (sized-long _ _ (s .args .i) _ _ (omega arith) (s .pre .1)))
 
 returns : tie.Need-returns
 returns c =
-    let stored = c .before .before .before .before in
+    let stored = c .before .before .before .before .before in
     let s = stored .before .before .before .before in
     let few = lent-few (s .pre .0) in
-    rw (c .keep .ensures, stored .store .ensures)
+    rw (c .keep .ensures, c .before .before .none .ensures, stored .store .ensures)
     (ledger-next _ _ (s .args .i) _ _ (omega arith) (s .pre .1) (stored .before .before .union-over .ensures)
-    (c .before .before .size .ensures .0 ∙ ap (λ (t : CacheSet). size (members t)) (c .before .before .before .at .ensures)))
+    (c .before .before .before .size .ensures .0 ∙ ap (λ (t : CacheSet). size (members t)) (c .before .before .before .before .at .ensures)))
 
 pub add-column-spec : {M : Type 1} → statement M
 add-column-spec =
@@ -39,5 +39,7 @@ add-column-spec =
     (λ c. omega (arith, lent-few (c .before .before .before .before .before .before .pre .0)))
     (λ c. omega (arith, lent-few (c .before .before .before .before .before .before .pre .0)))
     (λ c. omega (arith, lent-few (c .before .before .before .before .before .before .pre .0)))
+    (λ c. omega (arith, lent-few (c .before .before .before .before .before .before .pre .0)))
+    (λ c κs. search needs)
     keep-requires
     returns)

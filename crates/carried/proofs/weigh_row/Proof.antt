@@ -83,7 +83,7 @@ loop-again c =
       omega (arith, inside .loop-test .taken),
       passed kept,
       row-next (h .loop .j) (omega (arith, few h)) (h .loop .inv .2)
-          (pair-weighed _ _ (h .loop .j) _ _ (further gathered) (ap members (evictor .at3 .ensures)) (c .put-pair .ensures)),
+          (pair-weighed _ _ (h .loop .j) _ _ (inside .loop-test .taken) (further gathered) (ap members (evictor .at3 .ensures)) (c .put-pair .ensures)),
     )
 
 add-column-requires : tie.Need-add-column-requires Inv-loop μ-loop

@@ -1,4 +1,4 @@
--- `costs::reloads` meets its contract: each arm's callees say the count of its method. Assumes nothing.
+-- `costs::reloads` meets its contract: each arm's callees say the charge of its method. Assumes nothing.
 use mathlib.Core.Path.{ap, ap₂, _∙_}
 use native.Mathlib.Omega.{arith}
 use Rattle.sets.specs.declared.CacheSet.{CacheSet}
@@ -6,41 +6,44 @@ use Rattle.sets.specs.Sets.{Set, _∩_, size}
 use Rattle.sets.specs.Words.{members}
 use Rattle.board.specs.Board.{ucbOn, ecbOn}
 use Rattle.board.proofs.LentLaws.{lent-few, lent-long}
-use Rattle.costs.specs.Gather.{aff, largestOf}
-use Rattle.costs.proofs.CostLaws.{count-of}
+use Rattle.costs.specs.Gather.{aff, largestAt}
+use Rattle.costs.specs.declared.Charge.the-variants.{Victim}
+use Rattle.costs.specs.Costs.{noVictim}
+use Rattle.costs.proofs.CostLaws.{charge-of}
 use borrow.Author.Needs.{needs}
 use Rattle.costs.proofs.reloads.Statement.{statement}
 use Rattle.costs.proofs.reloads.Tie as tie
 
 returns : tie.Need-returns
 returns c =
-    let a = c .before .before .args in count-of (ucbOn (a .board .now)) (ecbOn (a .board .now)) (a .i) (a .j) _ 0 (omega arith)
+    let a = c .before .before .args in charge-of (ucbOn (a .board .now)) (ecbOn (a .board .now)) (a .i) (a .j) (a .method) 0 (omega arith)
 
 returns-2 : tie.Need-returns-2
 returns-2 c =
     let a = c .before .before .before .before .args in
-    c .size .ensures .0
-    ∙ ap (λ (s : CacheSet). size (members s)) (c .before .at .ensures)
-    ∙ count-of (ucbOn (a .board .now)) (ecbOn (a .board .now)) (a .i) (a .j) _ 1 (omega arith)
+    ap noVictim (c .size .ensures .0 ∙ ap (λ (s : CacheSet). size (members s)) (c .before .at .ensures))
+    ∙ charge-of (ucbOn (a .board .now)) (ecbOn (a .board .now)) (a .i) (a .j) (a .method) 1 (omega arith)
 
 returns-3 : tie.Need-returns-3
 returns-3 c =
     let a = c .before .before .before .args in
-    c .largest-over .ensures ∙ count-of (ucbOn (a .board .now)) (ecbOn (a .board .now)) (a .i) (a .j) _ 2 (omega arith)
+    ap Victim (c .largest-over .ensures) ∙ charge-of (ucbOn (a .board .now)) (ecbOn (a .board .now)) (a .i) (a .j) (a .method) 2 (omega arith)
 
 returns-4 : tie.Need-returns-4
 returns-4 c =
     let a = c .before .before .before .before .before .before .args in
-    c .size2 .ensures .0
-    ∙ ap size (c .before .intersection .ensures ∙ ap₂ _∩_ (c .before .before .before .union-over .ensures) (ap members (c .before .before .at2 .ensures)))
-    ∙ count-of (ucbOn (a .board .now)) (ecbOn (a .board .now)) (a .i) (a .j) _ 3 (omega arith)
+    ap noVictim
+    (c .size2 .ensures .0
+    ∙ ap size (c .before .intersection .ensures ∙ ap₂ _∩_ (c .before .before .before .union-over .ensures) (ap members (c .before .before .at2 .ensures))))
+    ∙ charge-of (ucbOn (a .board .now)) (ecbOn (a .board .now)) (a .i) (a .j) (a .method) 3 (omega arith)
 
 returns-5 : tie.Need-returns-5
 returns-5 c =
     let a = c .before .before .before .before .args in
-    c .largest-shared .ensures
-    ∙ ap (λ (A : Set). largestOf (λ k. size (ucbOn (a .board .now) k ∩ A)) (aff (a .i) (a .j))) (c .before .union-over2 .ensures)
-    ∙ count-of (ucbOn (a .board .now)) (ecbOn (a .board .now)) (a .i) (a .j) _ 4 (omega arith)
+    ap Victim
+    (c .largest-shared .ensures
+    ∙ ap (λ (A : Set). largestAt (λ k. size (ucbOn (a .board .now) k ∩ A)) (aff (a .i) (a .j))) (c .before .union-over2 .ensures))
+    ∙ charge-of (ucbOn (a .board .now)) (ecbOn (a .board .now)) (a .i) (a .j) (a .method) 4 (omega arith)
 
 pub reloads-spec : {M : Type 1} → statement M
 reloads-spec =

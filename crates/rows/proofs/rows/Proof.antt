@@ -25,7 +25,7 @@ loop-holds : tie.Need-loop-holds Inv-loop μ-loop
 loop-holds c = (
   omega arith,
   length-replicate {A = ℕ} 160 0,
-  record { long = length-replicate {A = ℕ} 352 0; columns = λ j h. absurd (omega arith) },
+  record { long = length-replicate {A = ℕ} 416 0; columns = λ j h. absurd (omega arith) },
   front-none noRow _,
   record { long = length-replicate {A = ℕ} 32 1; ends-long = length-replicate {A = ℕ} 32 0; above = λ k e. absurd (omega arith) },
 )

@@ -1,0 +1,118 @@
+-- The largest value, and the first position that has it. Assumes nothing.
+use Prim.Native.Nat.{ℕ, zero, suc, _+_, _-_, _≤_, _<_, max}
+use native.Mathlib.Nat.{le-antisymm, lt-of-not-le}
+use native.Mathlib.Omega.{arith}
+use mathlib.Core.Path.{_≡_, refl, sym, ap, ap₂}
+use mathlib.Core.Bool.{Bool, true, false, cond}
+use mathlib.Core.List.{List}
+use lib.Dec.{ltb}
+use borrow.Author.Count.{below-more}
+use borrow.Author.Tests.{ltb-true, ltb-false}
+use Rattle.demand.specs.Positions.{between}
+use Rattle.demand.proofs.PositionLaws.{between-first, fold-none, fold-next, fold-part}
+use Rattle.costs.specs.declared.Hit.{Hit}
+use Rattle.costs.specs.Gather.{largestOf, hit, largerOf, largestFrom, largestAt, FirstLargest}
+
+-- what holds of either where it is the larger
+larger-by : (P : Hit → Type 0) (a b : Hit) → (a .reloads .0 < b .reloads .0 → P b) → (b .reloads .0 ≤ a .reloads .0 → P a) → P (largerOf a b)
+larger-by P a b second first = go (ltb (a .reloads .0) (b .reloads .0)) refl
+  where
+    go : (t : Bool) → ltb (a .reloads .0) (b .reloads .0) ≡ t → P (cond t b a)
+    go true e = second (ltb-true _ _ e)
+    go false e = first (ltb-false _ _ e)
+
+-- its count is the largest value, over any positions
+pub largest-count : (p : ℕ) (F : ℕ → ℕ) (ks : List ℕ) → largestFrom p F ks .reloads .0 ≡ largestOf F ks
+largest-count p F ks =
+    fold-part largerOf max (λ h. h .reloads .0)
+    (λ a b. larger-by (λ h. h .reloads .0 ≡ max (a .reloads .0) (b .reloads .0)) a b (λ l. omega arith) (λ l. omega arith))
+    (hit 0 p) (λ k. hit (F k) k) ks
+
+pub hit-grows : (p q : ℕ) (F G : ℕ → ℕ) (ks ls : List ℕ) → largestOf F ks ≤ largestOf G ls
+    → largestFrom p F ks .reloads .0 ≤ largestFrom q G ls .reloads .0
+hit-grows p q F G ks ls h = rw (largest-count p F ks, largest-count q G ls) h
+
+module _ (F : ℕ → ℕ) (from : ℕ) where
+  -- a loop over the positions from `from` on: before the first, and at one more
+  pub hit-none : hit 0 from ≡ largestFrom from F (between from from)
+  hit-none = sym (fold-none largerOf (hit 0 from) (λ k. hit (F k) k) from)
+
+  pub hit-next : (k : ℕ) (so-far : Hit) (n : ℕ) → from ≤ k → so-far ≡ largestFrom from F (between from k) → n ≡ F k
+      → largerOf so-far (hit n k) ≡ largestFrom from F (between from (k + 1))
+  hit-next k so-far n h e f = fold-next largerOf (hit 0 from) (λ k. hit (F k) k) from k so-far (hit n k) h e (ap (λ (n : ℕ). hit n k) f)
+
+  -- over one position
+  one : FirstLargest F from (from + 1) (largerOf (hit 0 from) (hit (F from) from))
+  one = larger-by (FirstLargest F from (from + 1)) _ _ (λ l. here (F from) refl) (λ l. here 0 (omega arith))
+    where
+      here : (n : ℕ) → F from ≡ n → FirstLargest F from (from + 1) (hit n from)
+      here n e = record {
+        from-on = omega arith;
+        below = omega arith;
+        value = e;
+        most = λ k h b. let f : k ≡ from = omega arith in rw f (omega arith);
+        first = λ k h b. absurd (omega arith);
+      }
+
+  -- and one more
+  next : (k : ℕ) (h : Hit) → from ≤ k → FirstLargest F from k h → FirstLargest F from (k + 1) (largerOf h (hit (F k) k))
+  next k h l p =
+      larger-by (FirstLargest F from (k + 1)) h (hit (F k) k)
+      (λ less. record {
+        from-on = l;
+        below = omega arith;
+        value = refl;
+        most = λ m g b. below-more (λ m. from ≤ m → F m ≤ F k) k (λ m b g. omega (arith, p .most m g b)) (λ g. omega arith) m b g;
+        first = λ m g b. omega (arith, p .most m g b);
+      })
+      (λ least. record {
+        from-on = p .from-on;
+        below = omega (arith, p .below);
+        value = p .value;
+        most = λ m g b. below-more (λ m. from ≤ m → F m ≤ h .reloads .0) k (λ m b g. p .most m g b) (λ g. least) m b g;
+        first = p .first;
+      })
+
+  so-far : (n : ℕ) → FirstLargest F from (from + n + 1) (largestFrom from F (between from (from + n + 1)))
+  so-far zero =
+      let e : from + 0 ≡ from = omega arith in
+      rw (e, ← hit-next from (hit 0 from) (F from) (omega arith) hit-none refl) one
+  so-far (suc n) =
+      let e : from + suc n ≡ from + n + 1 = omega arith in
+      rw (e, ← hit-next (from + n + 1) _ (F (from + n + 1)) (omega arith) refl refl) (next (from + n + 1) _ (omega arith) (so-far n))
+
+  module _ (to : ℕ) (some : from < to) where
+    -- the first position is where the search starts
+    pub largest-from : largestFrom from F (between from to) ≡ largestAt F (between from to)
+    largest-from = ap (λ (p : ℕ). largestFrom p F (between from to)) (sym (between-first from to 0 some))
+
+    pub first-largest : FirstLargest F from to (largestAt F (between from to))
+    first-largest =
+        let e : to ≡ from + (to - from - 1) + 1 = omega arith in
+        rw (← largest-from, e) (so-far (to - from - 1))
+
+  -- it is the only one
+  module _ (to : ℕ) {g h : Hit} (p : FirstLargest F from to g) (q : FirstLargest F from to h) where
+    no-more : g .reloads .0 ≤ h .reloads .0
+    no-more = omega (arith, p .value, q .most (g .victim) (p .from-on) (p .below))
+
+    no-later : h .reloads .0 ≤ g .reloads .0 → h .victim < suc (g .victim)
+    no-later m = lt-of-not-le (λ l. omega (arith, p .value, q .first (g .victim) (p .from-on) l))
+
+  pub only-one : (to : ℕ) {g h : Hit} → FirstLargest F from to g → FirstLargest F from to h → g ≡ h
+  only-one to p q =
+      let m = no-more to p q in
+      let n = no-more to q p in
+      ap₂ hit (le-antisymm m n) (omega (arith, no-later to p q n, no-later to q p m))
+
+  -- where all values are 0, the first of the positions is hit
+  pub none-hit : (to : ℕ) → from < to → ((k : ℕ) → from ≤ k → k < to → F k ≡ 0) → largestAt F (between from to) ≡ hit 0 from
+  none-hit to some zeros =
+      only-one to (first-largest to some)
+      (record {
+        from-on = omega arith;
+        below = some;
+        value = zeros from (omega arith) some;
+        most = λ k h b. omega (arith, zeros k h b);
+        first = λ k h b. absurd (omega arith);
+      })
