@@ -25,9 +25,9 @@ pub figures-hold :
 unfolding responseOf answerOf leastOf firstOf demandOf reloadsOf at run fold ∅ _∪_ _∩_ sizeBelow size numberOf members
 figures-hold = (refl, refl, refl)
 
-abbrev charged : ChargeFigure → Charge
-charged f = chargeAt (f .table) (f .method) (f .position) (f .above)
+abbrev chargeFound : ChargeFigure → Charge
+chargeFound f = chargeAt (f .table) (f .method) (f .position) (f .preempting)
 
-pub charge-figures-hold : map charged chargeFigures ≡ map (λ (f : ChargeFigure). f .charge) chargeFigures
+pub charge-figures-hold : map chargeFound chargeFigures ≡ map (λ (f : ChargeFigure). f .charge) chargeFigures
 unfolding at run fold ∅ _∪_ _∩_ sizeBelow size numberOf members
 charge-figures-hold = refl

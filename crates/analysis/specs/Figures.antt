@@ -1,4 +1,4 @@
--- Worked figures, in one table. proofs/Figures.antt has that they are what the definitions say.
+-- Worked figures: responses in one table, and whom pre-emptions hit in another. proofs/Figures.antt has that they are what the definitions say.
 use Prim.Native.Nat.{ℕ}
 use mathlib.Core.List.{List, [], _∷_}
 use lib.ListN.{length}
@@ -79,28 +79,29 @@ figures =
 
 -- ---- whom the pre-emptions hit
 
--- four tasks, of which c and d have equally many useful blocks, and b fewer; and three without any
+-- four tasks: c and d have equally many useful blocks, b has fewer
 abbrev Q : Table
 Q = tableOf 4 1 (task 1 20 20 0 0 0x0 0xf ∷ task 2 40 40 0 0 0x1 0xf ∷ task 2 60 60 0 0 0x3 0xf ∷ task 2 80 80 0 0 0x6 0xf ∷ [])
 
+-- three tasks without useful blocks
 abbrev N : Table
 N = tableOf 4 1 (task 1 20 20 0 0 0x0 0xf ∷ task 2 40 40 0 0 0x0 0xf ∷ task 2 60 60 0 0 0x0 0xf ∷ [])
 
--- under `method` an activation of the task at `above` of `table` is charged `charge` while the task at `position` is pending
+-- under `method` an activation of the task at `preempting` of `table` is charged `charge` while the task at `position` is pending
 pub record ChargeFigure : Type 0 where
   pub table : Table
   pub method : ℕ
   pub position : ℕ
-  pub above : ℕ
+  pub preempting : ℕ
   pub charge : Charge
 
 -- n reloads of the task at k
 abbrev hits : Table → ℕ → ℕ → ℕ → ℕ → ℕ → ChargeFigure
-hits table m i j n k = record { table = table; method = m; position = i; above = j; charge = Victim (hit n k) }
+hits table m i j n k = record { table = table; method = m; position = i; preempting = j; charge = Victim (hit n k) }
 
--- n reloads of no one task
-abbrev hitsNoOne : Table → ℕ → ℕ → ℕ → ℕ → ChargeFigure
-hitsNoOne table m i j n = record { table = table; method = m; position = i; above = j; charge = noVictim n }
+-- n reloads, not those of a single task
+abbrev hitsNoSingle : Table → ℕ → ℕ → ℕ → ℕ → ChargeFigure
+hitsNoSingle table m i j n = record { table = table; method = m; position = i; preempting = j; charge = noVictim n }
 
 abbrev pub chargeFigures : List ChargeFigure
 chargeFigures =
@@ -109,5 +110,5 @@ chargeFigures =
     ∷ hits M 2 2 0 4 2 ∷ hits M 2 2 1 4 2 ∷ hits M 4 2 0 2 1 ∷ hits M 4 2 1 4 2
     ∷ hits Q 2 3 0 2 2 ∷ hits Q 2 3 1 2 2 ∷ hits Q 2 3 2 2 3 ∷ hits Q 4 3 0 2 2
     ∷ hits N 2 2 0 0 1 ∷ hits N 2 2 1 0 2 ∷ hits N 4 2 0 0 1 ∷ hits N 4 2 1 0 2
-    ∷ hitsNoOne M 0 2 0 0 ∷ hitsNoOne M 1 2 0 4 ∷ hitsNoOne M 3 2 0 4
+    ∷ hitsNoSingle M 0 2 0 0 ∷ hitsNoSingle M 1 2 0 4 ∷ hitsNoSingle M 3 2 0 4
     ∷ []

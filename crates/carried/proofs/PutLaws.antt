@@ -71,14 +71,14 @@ module _ (j : ℕ) (column : j < 32) where
   pair-next {y = y} n h p z v e q = put-then (pair-joins n) p (single-put y z n j v (p .long) h column e q)
 
   -- the five weights of the code
-  pub pair-put : (u v x y z s : List ℕ) (work brt evicting evicted : ℕ) (ecb : Set) (g : Gathered) → length u ≡ 160
+  pub pair-put : (u v x y z s : List ℕ) (work brt evicting reloaded : ℕ) (ecb : Set) (g : Gathered) → length u ≡ 160
       → v ≡ set u (weightAt 0 j) (work + brt * 0)
       → x ≡ set v (weightAt 1 j) (work + brt * evicting) → evicting ≡ size ecb
       → y ≡ set x (weightAt 2 j) (work + brt * g .most .reloads .0)
-      → z ≡ set y (weightAt 3 j) (work + brt * evicted) → evicted ≡ size (members (g .all) ∩ ecb)
+      → z ≡ set y (weightAt 3 j) (work + brt * reloaded) → reloaded ≡ size (members (g .all) ∩ ecb)
       → s ≡ set z (weightAt 4 j) (work + brt * g .shared .reloads .0)
       → Put (InPair j 5) (λ m _. work + brt * countFor ecb g m) u s
-  pair-put u v x y z s work brt evicting evicted ecb g long e0 e1 q1 e2 e3 q3 e4 =
+  pair-put u v x y z s work brt evicting reloaded ecb g long e0 e1 q1 e2 e3 q3 e4 =
       let w : ℕ → ℕ → ℕ = λ m _. work + brt * countFor ecb g m in
       let p0 : Put (InPair j 0) w u u = put-none _ _ u long (λ m b p. omega arith) in
       let p1 : Put (InPair j 1) w u v = pair-next 0 (omega arith) p0 v _ e0 refl in

@@ -34,18 +34,18 @@ const LARGEST: usize = 288;
 // Where the largest shared sizes start.
 const SHARED: usize = 352;
 
-// How far behind a count its victim stands.
+// How many places after a count its victim stands.
 const VICTIM: usize = 32;
 
 // What is gathered for the task at j over the positions below it, down to a row: the largest UCB, the union of the UCBs, and the most that one
-// UCB shares with the ECBs of j and all above it; of the two largest, whose they are.
+// UCB shares with the ECBs of j and all above it; the first and the last with the position that has them.
 struct Gathered {
     most: Hit,
     all: CacheSet,
     shared: Hit,
 }
 
-// One row more, with its UCB, and as `useful` the size of that and the row's position.
+// One row more: `ucb` is its task's UCB, and `useful` the size of that with the task's position.
 fn gather(gathered: Gathered, ucb: CacheSet, useful: Hit, above: CacheSet) -> Gathered
     requires { ⌜ useful .reloads .0 ≡ size (members ucb) ⌝ }
     ensures { λ r. ⌜ Next gathered (members ucb) (members above) (useful .victim) r ⌝ }
@@ -127,11 +127,11 @@ fn put_pair(
     requires { ⌜ (j < 32) × (work .0 ≤ 250000000) × (brt .0 ≤ 100000) × (evicting .0 ≡ size (members ecb)) × Small gathered × (length (now weights) ≡ 160) ⌝ }
     ensures { λ _. ⌜ Put (InPair j 5) (λ m _. work .0 + brt .0 * countFor (members ecb) gathered m) (now (weights .entry)) (now (weights .exit)) ⌝ }
 {
-    let evicted = gathered.all.intersection(ecb).size();
+    let reloaded = gathered.all.intersection(ecb).size();
     put(weights, 0, j, work, Reloads(0), brt);
     put(weights, 1, j, work, evicting, brt);
     put(weights, 2, j, work, gathered.most.reloads, brt);
-    put(weights, 3, j, work, evicted, brt);
+    put(weights, 3, j, work, reloaded, brt);
     put(weights, 4, j, work, gathered.shared.reloads, brt);
 }
 

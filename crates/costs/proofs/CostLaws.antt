@@ -39,7 +39,7 @@ charge-same U E U′ E′ m i j h u e =
 
 module _ (U E : ℕ → Set) (i j : ℕ) where
   -- the charge under the method that the code has found m to be
-  pub charge-of : (m k : ℕ) → m ≡ k → getD (charges U E i j) k (noVictim 0) ≡ chargeOf U E m i j
+  pub charge-of : (m k : ℕ) → m ≡ k → chargeOf U E k i j ≡ chargeOf U E m i j
   charge-of m k e = ap (λ (n : ℕ). chargeOf U E n i j) (sym e)
 
   pub reloads-most : (m : ℕ) → reloadsOf U E m i j ≤ 2048

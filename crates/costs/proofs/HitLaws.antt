@@ -21,7 +21,7 @@ larger-by P a b second first = go (ltb (a .reloads .0) (b .reloads .0)) refl
     go true e = second (ltb-true _ _ e)
     go false e = first (ltb-false _ _ e)
 
--- its count is the largest value, over any positions
+-- the count of the pair is the largest value, over any positions
 pub largest-count : (p : ℕ) (F : ℕ → ℕ) (ks : List ℕ) → largestFrom p F ks .reloads .0 ≡ largestOf F ks
 largest-count p F ks =
     fold-part largerOf max (λ h. h .reloads .0)
@@ -73,41 +73,41 @@ module _ (F : ℕ → ℕ) (from : ℕ) where
         first = p .first;
       })
 
-  so-far : (n : ℕ) → FirstLargest F from (from + n + 1) (largestFrom from F (between from (from + n + 1)))
-  so-far zero =
+  run-largest : (n : ℕ) → FirstLargest F from (from + n + 1) (largestFrom from F (between from (from + n + 1)))
+  run-largest zero =
       let e : from + 0 ≡ from = omega arith in
       rw (e, ← hit-next from (hit 0 from) (F from) (omega arith) hit-none refl) one
-  so-far (suc n) =
+  run-largest (suc n) =
       let e : from + suc n ≡ from + n + 1 = omega arith in
-      rw (e, ← hit-next (from + n + 1) _ (F (from + n + 1)) (omega arith) refl refl) (next (from + n + 1) _ (omega arith) (so-far n))
+      rw (e, ← hit-next (from + n + 1) _ (F (from + n + 1)) (omega arith) refl refl) (next (from + n + 1) _ (omega arith) (run-largest n))
 
   module _ (to : ℕ) (some : from < to) where
-    -- the first position is where the search starts
+    -- begun at the first position it is `largestAt`
     pub largest-from : largestFrom from F (between from to) ≡ largestAt F (between from to)
     largest-from = ap (λ (p : ℕ). largestFrom p F (between from to)) (sym (between-first from to 0 some))
 
     pub first-largest : FirstLargest F from to (largestAt F (between from to))
     first-largest =
         let e : to ≡ from + (to - from - 1) + 1 = omega arith in
-        rw (← largest-from, e) (so-far (to - from - 1))
+        rw (← largest-from, e) (run-largest (to - from - 1))
 
   -- it is the only one
   module _ (to : ℕ) {g h : Hit} (p : FirstLargest F from to g) (q : FirstLargest F from to h) where
-    no-more : g .reloads .0 ≤ h .reloads .0
-    no-more = omega (arith, p .value, q .most (g .victim) (p .from-on) (p .below))
+    none-larger : g .reloads .0 ≤ h .reloads .0
+    none-larger = omega (arith, p .value, q .most (g .victim) (p .from-on) (p .below))
 
     no-later : h .reloads .0 ≤ g .reloads .0 → h .victim < suc (g .victim)
     no-later m = lt-of-not-le (λ l. omega (arith, p .value, q .first (g .victim) (p .from-on) l))
 
   pub only-one : (to : ℕ) {g h : Hit} → FirstLargest F from to g → FirstLargest F from to h → g ≡ h
   only-one to p q =
-      let m = no-more to p q in
-      let n = no-more to q p in
+      let m = none-larger to p q in
+      let n = none-larger to q p in
       ap₂ hit (le-antisymm m n) (omega (arith, no-later to p q n, no-later to q p m))
 
   -- where all values are 0, the first of the positions is hit
-  pub none-hit : (to : ℕ) → from < to → ((k : ℕ) → from ≤ k → k < to → F k ≡ 0) → largestAt F (between from to) ≡ hit 0 from
-  none-hit to some zeros =
+  pub all-zero : (to : ℕ) → from < to → ((k : ℕ) → from ≤ k → k < to → F k ≡ 0) → largestAt F (between from to) ≡ hit 0 from
+  all-zero to some zeros =
       only-one to (first-largest to some)
       (record {
         from-on = omega arith;

@@ -30,8 +30,7 @@ union-grows = record {
 
 -- ---- more marks, more reloads: what stands at k in the one stands at place k in the other
 
-module _ (place : ℕ → ℕ) (rises : Rising place) (U E U′ E′ : ℕ → Set) (i j : ℕ) (above : j < i)
-    (u : (k : ℕ) → k ≤ i → U k ⊆ U′ (place k)) (e : (k : ℕ) → k ≤ i → E k ⊆ E′ (place k)) where
+module _ (place : ℕ → ℕ) (rises : Rising place) (i j : ℕ) where
   next-place : place j + 1 ≤ place (j + 1)
   next-place = omega (arith, place-lt place rises j (j + 1) (omega arith))
 
@@ -45,6 +44,8 @@ module _ (place : ℕ → ℕ) (rises : Rising place) (U E U′ E′ : ℕ → S
       (gathered max-grows place rises 0 0 (omega arith) F G (j + 1) (place j + 1) next-place (i + 1) (place i + 1)
       (λ k h l. (in-aff k l, f k (omega arith))))
 
+module _ (place : ℕ → ℕ) (rises : Rising place) (U E U′ E′ : ℕ → Set) (i j : ℕ) (above : j < i)
+    (u : (k : ℕ) → k ≤ i → U k ⊆ U′ (place k)) (e : (k : ℕ) → k ≤ i → E k ⊆ E′ (place k)) where
   evicted : unionOf E (hp (j + 1)) ⊆ unionOf E′ (hp (place j + 1))
   evicted =
       gathered union-grows place rises ∅ ∅ (λ s h. h) E E′ 0 0 zero-le (j + 1) (place j + 1)
@@ -54,13 +55,14 @@ module _ (place : ℕ → ℕ) (rises : Rising place) (U E U′ E′ : ℕ → S
   unfolding reloadsOf
   reloads-by zero = omega arith
   reloads-by (suc zero) = size-mono _ _ (e j (omega arith))
-  reloads-by (suc (suc zero)) = largest-by (λ k. size (U k)) (λ k. size (U′ k)) (λ k l. size-mono _ _ (u k l))
+  reloads-by (suc (suc zero)) = largest-by place rises i j (λ k. size (U k)) (λ k. size (U′ k)) (λ k l. size-mono _ _ (u k l))
   reloads-by (suc (suc (suc zero))) =
       size-inter-mono _ _ _ _
-      (gathered union-grows place rises ∅ ∅ (λ s h. h) U U′ (j + 1) (place j + 1) next-place (i + 1) (place i + 1) (λ k h l. (in-aff k l, u k (omega arith))))
+      (gathered union-grows place rises ∅ ∅ (λ s h. h) U U′ (j + 1) (place j + 1) (next-place place rises i j) (i + 1) (place i + 1)
+      (λ k h l. (in-aff place rises i j k l, u k (omega arith))))
       (e j (omega arith))
   reloads-by (suc (suc (suc (suc zero)))) =
-      largest-by (λ k. size (U k ∩ unionOf E (hp (j + 1)))) (λ k. size (U′ k ∩ unionOf E′ (hp (place j + 1))))
+      largest-by place rises i j (λ k. size (U k ∩ unionOf E (hp (j + 1)))) (λ k. size (U′ k ∩ unionOf E′ (hp (place j + 1))))
       (λ k l. size-inter-mono _ _ _ _ (u k l) evicted)
   reloads-by (suc (suc (suc (suc (suc m))))) = omega arith
 
@@ -74,9 +76,7 @@ module _ (U E : ℕ → Set) (i j : ℕ) where
   pub ecb-union-least : reloadsOf U E 4 i j ≤ reloadsOf U E 2 i j
   unfolding reloadsOf
   ecb-union-least =
-      hit-grows _ _ _ _ _ _
-      (gathered max-grows (λ k. k) (λ k. omega arith) 0 0 (omega arith) (λ k. size (U k ∩ unionOf E (hp (j + 1)))) (λ k. size (U k)) (j + 1) (j + 1) (omega arith)
-      (i + 1) (i + 1) (λ k h l. (l, size-inter-left _ _)))
+      largest-by (λ k. k) (λ k. omega arith) i j (λ k. size (U k ∩ unionOf E (hp (j + 1)))) (λ k. size (U k)) (λ k l. size-inter-left _ _)
 
 -- ---- the terms of accepted tables
 

@@ -14,7 +14,7 @@ use Rattle.costs.specs.declared.Charge.{Charge}
 use Rattle.costs.specs.declared.Charge.the-variants.{Victim, NoVictim}
 use Rattle.costs.specs.Gather.{aff, unionOf, largestAt}
 
--- a count that no one task has
+-- a count that is not that of a single task
 abbrev pub noVictim : ℕ → Charge
 noVictim n = NoVictim (record { 0 = n })
 
@@ -28,6 +28,7 @@ charges U E i j =
     ∷ Victim (largestAt (λ k. size (U k ∩ unionOf E (hp (j + 1)))) (aff i j))
     ∷ []
 
+-- the charge under method m
 abbrev pub chargeOf : (ℕ → Set) → (ℕ → Set) → ℕ → ℕ → ℕ → Charge
 chargeOf U E m i j = getD (charges U E i j) m (noVictim 0)
 
@@ -55,7 +56,7 @@ ecbOf table k = members (at table k .ecb)
 abbrev pub chargeAt : Table → ℕ → ℕ → ℕ → Charge
 chargeAt table = chargeOf (ucbOf table) (ecbOf table)
 
--- what that task asks for
+-- what the task at j asks for, with that charge in its weight
 abbrev pub termAt : Table → ℕ → ℕ → ℕ → Term
 termAt table m i j =
     termOf (at table j .period .0) (at table j .jitter .0) (weightOf (λ k. at table k .work .0) (table .brt .0) (ucbOf table) (ecbOf table) m i j)

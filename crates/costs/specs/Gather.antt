@@ -16,6 +16,7 @@ aff i j = between (j + 1) (i + 1)
 abbrev pub unionOf : (ℕ → Set) → List ℕ → Set
 unionOf F ks = fold _∪_ ∅ F ks
 
+-- the largest value alone: the count of the pair below (`largest-count` in proofs/HitLaws.antt)
 abbrev pub largestOf : (ℕ → ℕ) → List ℕ → ℕ
 largestOf F ks = fold max 0 F ks
 
@@ -29,11 +30,11 @@ hit n k = record { reloads = record { 0 = n }; victim = k }
 abbrev pub largerOf : Hit → Hit → Hit
 largerOf a b = cond (ltb (a .reloads .0) (b .reloads .0)) b a
 
--- the largest value with the first position that has it, begun with 0 at p, which stays where no value is larger
+-- the largest value with the first position that has it, begun with 0 at p: p is the position where all values are 0
 abbrev pub largestFrom : ℕ → (ℕ → ℕ) → List ℕ → Hit
 largestFrom p F ks = fold largerOf (hit 0 p) (λ k. hit (F k) k) ks
 
--- the largest value over the positions, with the first of them that has it
+-- the largest value over the positions, with the first of them that has it (0 at 0 where there are none, which aff i j never is for j < i)
 abbrev pub largestAt : (ℕ → ℕ) → List ℕ → Hit
 largestAt F ks = largestFrom (getD ks 0 0) F ks
 

@@ -25,25 +25,26 @@ pub struct Hit {
 }
 
 impl Hit {
-    // Nothing to reload yet. Where nothing ever is, the first task that could be hit counts as the victim.
-    pub fn none(first: usize) -> Hit
-        ensures { λ r. ⌜ r ≡ hit 0 first ⌝ }
+    // Nothing to reload, before any task is looked at. Where no task has anything, this victim stays.
+    pub fn none(victim: usize) -> Hit
+        ensures { λ r. ⌜ r ≡ hit 0 victim ⌝ }
     {
         Hit {
             reloads: Reloads(0),
-            victim: first,
+            victim,
         }
     }
 }
 
-// What an activation is charged for reloads: as many as the worst hit task has, or a count that no one task has.
+// What an activation is charged for reloads: as many as the worst hit task has, or a count that is not that of a single task.
 pub enum Charge {
     Victim(Hit),
     NoVictim(Reloads),
 }
 
 impl Charge {
-    fn reloads(self) -> Reloads
+    // How many reloads, whosoever they are.
+    fn count(self) -> Reloads
         ensures { λ r. ⌜ r .0 ≡ reloadsIn self ⌝ }
     {
         match self {
@@ -139,7 +140,7 @@ pub fn weights(board: &[u64], method: u64, i: usize) -> [u64; 32]
     let mut all = [0u64; 32];
     for j in 0..i {
         let work = Ticks(board[WORKS + j]);
-        all[j] = weight(work, reloads(board, method, i, j).reloads(), brt).0;
+        all[j] = weight(work, reloads(board, method, i, j).count(), brt).0;
     }
     all
 }

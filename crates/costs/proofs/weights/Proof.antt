@@ -25,10 +25,10 @@ reloads-requires : tie.Need-reloads-requires Inv-loop μ-loop
 reloads-requires c κs = let p = c .before .before .before .before .before .pre in (p .0, omega arith, p .1)
 
 -- the count in the charge
-counted : (c : tie.After-reloads2 Inv-loop μ-loop) → let h = c .before .before .before .before in let a = h .before .before .before .args in
-    c .reloads2 .result .0 ≡ reloadsOf (ucbOn (a .board .now)) (ecbOn (a .board .now)) (a .method) (a .i) (h .loop .j)
+count-is : (c : tie.After-count Inv-loop μ-loop) → let h = c .before .before .before .before in let a = h .before .before .before .args in
+    c .count .result .0 ≡ reloadsOf (ucbOn (a .board .now)) (ecbOn (a .board .now)) (a .method) (a .i) (h .loop .j)
 unfolding reloadsOf
-counted c = c .reloads2 .ensures ∙ ap reloadsIn (c .before .reloads .ensures)
+count-is c = c .count .ensures ∙ ap reloadsIn (c .before .reloads .ensures)
 
 weight-requires : tie.Need-weight-requires Inv-loop μ-loop
 weight-requires c κs =
@@ -36,7 +36,7 @@ weight-requires c κs =
     let s = h .before .before .before in
     let a = s .args in (
       lent-ranged (s .pre .1) (h .loop .j) (omega arith) .work,
-      omega (arith, counted c, reloads-most (ucbOn (a .board .now)) (ecbOn (a .board .now)) (a .i) (h .loop .j) (a .method)),
+      omega (arith, count-is c, reloads-most (ucbOn (a .board .now)) (ecbOn (a .board .now)) (a .i) (h .loop .j) (a .method)),
       lent-brt (s .pre .1),
     )
 
@@ -48,7 +48,7 @@ loop-again c =
     let few = lent-few (s .pre .1) in (
       omega arith,
       rw (h .loop .inv .1) (front-next 0 (weightOn (a .board .now) (a .method) (a .i)) (h .loop .j) _ (omega arith)
-          (c .weight .ensures ∙ ap (λ (n : ℕ). workOn (a .board .now) (h .loop .j) + brtOn (a .board .now) * n) (counted (c .before)))),
+          (c .weight .ensures ∙ ap (λ (n : ℕ). workOn (a .board .now) (h .loop .j) + brtOn (a .board .now) * n) (count-is (c .before)))),
     )
 
 returns : tie.Need-returns Inv-loop μ-loop
