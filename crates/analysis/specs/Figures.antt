@@ -100,8 +100,8 @@ abbrev hits : Table → ℕ → ℕ → ℕ → ℕ → ℕ → ChargeFigure
 hits table m i j n k = record { table = table; method = m; position = i; preempting = j; charge = Victim (hit n k) }
 
 -- n reloads, not those of a single task
-abbrev hitsNoSingle : Table → ℕ → ℕ → ℕ → ℕ → ChargeFigure
-hitsNoSingle table m i j n = record { table = table; method = m; position = i; preempting = j; charge = noVictim n }
+abbrev withoutVictim : Table → ℕ → ℕ → ℕ → ℕ → ChargeFigure
+withoutVictim table m i j n = record { table = table; method = m; position = i; preempting = j; charge = noVictim n }
 
 abbrev pub chargeFigures : List ChargeFigure
 chargeFigures =
@@ -110,5 +110,5 @@ chargeFigures =
     ∷ hits M 2 2 0 4 2 ∷ hits M 2 2 1 4 2 ∷ hits M 4 2 0 2 1 ∷ hits M 4 2 1 4 2
     ∷ hits Q 2 3 0 2 2 ∷ hits Q 2 3 1 2 2 ∷ hits Q 2 3 2 2 3 ∷ hits Q 4 3 0 2 2
     ∷ hits N 2 2 0 0 1 ∷ hits N 2 2 1 0 2 ∷ hits N 4 2 0 0 1 ∷ hits N 4 2 1 0 2
-    ∷ hitsNoSingle M 0 2 0 0 ∷ hitsNoSingle M 1 2 0 4 ∷ hitsNoSingle M 3 2 0 4
+    ∷ withoutVictim M 0 2 0 0 ∷ withoutVictim M 1 2 0 4 ∷ withoutVictim M 3 2 0 4
     ∷ []

@@ -31,7 +31,7 @@ use Rattle.carried.proofs.PutLaws.{put-as}
 -- ---- what is gathered for one task
 
 -- nothing, and the first that could be hit is the task below
-abbrev pub ungathered : ℕ → Gathered
+abbrev ungathered : ℕ → Gathered
 ungathered j = record { most = hit 0 (j + 1); all = noSets; shared = hit 0 (j + 1) }
 
 module _ (U : ℕ → Set) (above : Set) (j : ℕ) where

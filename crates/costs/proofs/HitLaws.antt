@@ -42,8 +42,8 @@ module _ (F : ℕ → ℕ) (from : ℕ) where
   hit-next k so-far n h e f = fold-next largerOf (hit 0 from) (λ k. hit (F k) k) from k so-far (hit n k) h e (ap (λ (n : ℕ). hit n k) f)
 
   -- over one position
-  one : FirstLargest F from (from + 1) (largerOf (hit 0 from) (hit (F from) from))
-  one = larger-by (FirstLargest F from (from + 1)) _ _ (λ l. here (F from) refl) (λ l. here 0 (omega arith))
+  largest-one : FirstLargest F from (from + 1) (largerOf (hit 0 from) (hit (F from) from))
+  largest-one = larger-by (FirstLargest F from (from + 1)) _ _ (λ l. here (F from) refl) (λ l. here 0 (omega arith))
     where
       here : (n : ℕ) → F from ≡ n → FirstLargest F from (from + 1) (hit n from)
       here n e = record {
@@ -55,8 +55,8 @@ module _ (F : ℕ → ℕ) (from : ℕ) where
       }
 
   -- and one more
-  next : (k : ℕ) (h : Hit) → from ≤ k → FirstLargest F from k h → FirstLargest F from (k + 1) (largerOf h (hit (F k) k))
-  next k h l p =
+  largest-next : (k : ℕ) (h : Hit) → from ≤ k → FirstLargest F from k h → FirstLargest F from (k + 1) (largerOf h (hit (F k) k))
+  largest-next k h l p =
       larger-by (FirstLargest F from (k + 1)) h (hit (F k) k)
       (λ less. record {
         from-on = l;
@@ -76,10 +76,10 @@ module _ (F : ℕ → ℕ) (from : ℕ) where
   run-largest : (n : ℕ) → FirstLargest F from (from + n + 1) (largestFrom from F (between from (from + n + 1)))
   run-largest zero =
       let e : from + 0 ≡ from = omega arith in
-      rw (e, ← hit-next from (hit 0 from) (F from) (omega arith) hit-none refl) one
+      rw (e, ← hit-next from (hit 0 from) (F from) (omega arith) hit-none refl) largest-one
   run-largest (suc n) =
       let e : from + suc n ≡ from + n + 1 = omega arith in
-      rw (e, ← hit-next (from + n + 1) _ (F (from + n + 1)) (omega arith) refl refl) (next (from + n + 1) _ (omega arith) (run-largest n))
+      rw (e, ← hit-next (from + n + 1) _ (F (from + n + 1)) (omega arith) refl refl) (largest-next (from + n + 1) _ (omega arith) (run-largest n))
 
   module _ (to : ℕ) (some : from < to) where
     -- begun at the first position it is `largestAt`

@@ -37,6 +37,7 @@ abbrev pub reloadsIn : Charge → ℕ
 reloadsIn (Victim h) = h .reloads .0
 reloadsIn (NoVictim n) = n .0
 
+-- g(i, j) alone
 unfoldable pub reloadsOf : (ℕ → Set) → (ℕ → Set) → ℕ → ℕ → ℕ → ℕ
 reloadsOf U E m i j = reloadsIn (chargeOf U E m i j)
 

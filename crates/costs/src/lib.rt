@@ -43,7 +43,7 @@ pub enum Charge {
 }
 
 impl Charge {
-    // How many reloads, whosoever they are.
+    // How many reloads, with or without a victim.
     fn count(self) -> Reloads
         ensures { λ r. ⌜ r .0 ≡ reloadsIn self ⌝ }
     {
