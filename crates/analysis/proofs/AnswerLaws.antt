@@ -15,7 +15,7 @@ use Rattle.demand.specs.Terms.{termIn, Handed}
 use Rattle.demand.specs.Least.{leastOf, LeastWithin, sooner}
 use Rattle.demand.proofs.FrontLaws.{front-at, front-long}
 use Rattle.demand.proofs.LeastLaws.{leastOf-least}
-use Rattle.demand.proofs.DemandLaws.{demand-same}
+use Rattle.demand.proofs.DemandLaws.{demand-same, handed-for}
 use Rattle.tasks.specs.Tasks.{ownOf, limitOf}
 use Rattle.table.specs.declared.Table.{Table}
 use Rattle.table.specs.Tasks.{at}
@@ -23,7 +23,7 @@ use Rattle.board.specs.Board.{workOn, ownOn, limitOn, BoardOf, Lent}
 use Rattle.board.proofs.LentLaws.{lent-few, lent-long}
 use Rattle.costs.specs.Costs.{reloadsOf, weightOn, termAt}
 use Rattle.costs.proofs.BoardLaws.{term-is, terms-in, lent-handed}
-use Rattle.analysis.specs.Analysis.{answerOf, answerOn, withCombined, responseOf}
+use Rattle.analysis.specs.Analysis.{answerOf, answerOn, leastOn, withCombined, responseOf}
 
 -- what an answer means
 pub answer-means : (table : Table) (m i : ℕ) → LeastWithin (demandOf (ownOf (at table i)) (termAt table m i) i) (limitOf (at table i)) (answerOf table m i)
@@ -72,10 +72,14 @@ abbrev pub worksOn : List ℕ → List ℕ
 worksOn board = take 32 (drop 64 board)
 
 module _ {board : List ℕ} {n : ℕ} (lent : Lent board n) (m i : ℕ) (here : i < n) where
+  least-by-weights : (limit : ℕ) (ws : List ℕ) → ((j : ℕ) → j < i → getD ws j 0 ≡ weightOn board m i j)
+      → leastOf (demandOf (ownOn board i) (termIn board ws) i) limit ≡ leastOn board m i limit
+  least-by-weights limit ws each = ap (λ (f : ℕ → ℕ). leastOf f limit) (demand-same (ownOn board i) _ _ i (terms-in lent m i here ws each))
+
   pub answer-by-weights : (ws : List ℕ) → ((j : ℕ) → j < i → getD ws j 0 ≡ weightOn board m i j)
       → leastOf (demandOf (ownOn board i) (termIn board ws) i) (limitOn board i) ≡ answerOn board m i
   unfolding answerOn
-  answer-by-weights ws each = ap (λ (f : ℕ → ℕ). leastOf f (limitOn board i)) (demand-same (ownOn board i) _ _ i (terms-in lent m i here ws each))
+  answer-by-weights = least-by-weights (limitOn board i)
 
   weights-are : (j : ℕ) → j < i → getD (weightsOn board m i) j 0 ≡ weightOn board m i j
   weights-are j l = front-at 0 (weightOn board m i) i j 0 l
@@ -85,8 +89,12 @@ module _ {board : List ℕ} {n : ℕ} (lent : Lent board n) (m i : ℕ) (here : 
       let few = lent-few lent in
       lent-handed lent m i here (weightsOn board m i) weights-are (omega (arith, front-long 0 (weightOn board m i) i (omega arith)))
 
-  pub answer-by-front : leastOf (demandOf (ownOn board i) (termIn board (weightsOn board m i)) i) (limitOn board i) ≡ answerOn board m i
-  answer-by-front = answer-by-weights (weightsOn board m i) weights-are
+  pub least-by-front : (limit : ℕ) → leastOf (demandOf (ownOn board i) (termIn board (weightsOn board m i)) i) limit ≡ leastOn board m i limit
+  least-by-front limit = least-by-weights limit (weightsOn board m i) weights-are
+
+-- what may be handed to a search within the task's limit may be handed to one within another
+pub handed-within : {own n r limit : ℕ} {releases weights : List ℕ} → Handed own releases weights n r → limit ≤ 250000000 → Handed own releases weights n limit
+handed-within p = handed-for p (p .own-least) (p .own-most)
 
 -- without reloads the weights are the tasks' work
 pub plain-weight : (board : List ℕ) (i j : ℕ) → workOn board j ≡ weightOn board 0 i j
@@ -105,5 +113,5 @@ module _ {board : List ℕ} {n : ℕ} (lent : Lent board n) (i : ℕ) (here : i 
       let long = lent-long lent in
       lent-handed lent 0 i here (worksOn board) works-are (simp (length-take, length-drop) (omega arith))
 
-  pub answer-by-works : (m : ℕ) → m ≡ 0 → leastOf (demandOf (ownOn board i) (termIn board (worksOn board)) i) (limitOn board i) ≡ answerOn board m i
-  answer-by-works m e = answer-by-weights lent 0 i here (worksOn board) works-are ∙ ap (λ (k : ℕ). answerOn board k i) (sym e)
+  pub least-by-works : (m limit : ℕ) → m ≡ 0 → leastOf (demandOf (ownOn board i) (termIn board (worksOn board)) i) limit ≡ leastOn board m i limit
+  least-by-works m limit e = least-by-weights lent 0 i here limit (worksOn board) works-are ∙ ap (λ (k : ℕ). leastOn board k i limit) (sym e)

@@ -26,6 +26,10 @@ answerOf table m i = leastOf (demandOf (ownOf (at table i)) (termAt table m i) i
 unfoldable pub answerOn : List ℕ → ℕ → ℕ → Response
 answerOn board m i = leastOf (demandOf (ownOn board i) (termOn board m i) i) (limitOn board i)
 
+-- the smallest R up to any limit that equals the demand of that task
+abbrev pub leastOn : List ℕ → ℕ → ℕ → ℕ → Response
+leastOn board m i limit = leastOf (demandOf (ownOn board i) (termOn board m i) i) limit
+
 -- method 5 is the sooner of the answers of 3 and 4
 abbrev pub withCombined : (ℕ → Response) → ℕ → Response
 withCombined A m = cond (eqb m 5) (sooner (A 3) (A 4)) (A m)

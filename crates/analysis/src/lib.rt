@@ -11,44 +11,44 @@ ghost use Prim.Native.Nat.{_+_, _≤_};
 ghost use Rattle.demand.specs.Demand.{demandOf};
 ghost use Rattle.demand.specs.Terms.{termIn, Handed};
 ghost use Rattle.demand.specs.Least.{leastOf};
-ghost use Rattle.board.specs.Board.{ownOn, limitOn, Lent};
-ghost use Rattle.analysis.specs.Analysis.{answerOn, withCombined, responseOf, Answerable};
+ghost use Rattle.board.specs.Board.{ownOn, Lent};
+ghost use Rattle.analysis.specs.Analysis.{leastOn, answerOn, withCombined, responseOf, Answerable};
 
-// The answer for the task at i of a board by a list of the weights of those above it.
-fn by_weights(board: &[u64], weights: &[u64], i: usize) -> Response
-    requires { ⌜ Lent (now board) (i + 1) × Handed (ownOn (now board) i) (now board) (now weights) i (limitOn (now board) i) ⌝ }
-    ensures { λ r. ⌜ r ≡ leastOf (demandOf (ownOn (now (board .entry)) i) (termIn (now (board .entry)) (now (weights .entry))) i) (limitOn (now (board .entry)) i) ⌝ }
+// The smallest time up to a limit that equals the demand of the task at i of a board, by a list of the weights of those above it.
+fn by_weights(board: &[u64], weights: &[u64], i: usize, limit: Ticks) -> Response
+    requires { ⌜ Lent (now board) (i + 1) × Handed (ownOn (now board) i) (now board) (now weights) i (limit .0) ⌝ }
+    ensures { λ r. ⌜ r ≡ leastOf (demandOf (ownOn (now (board .entry)) i) (termIn (now (board .entry)) (now (weights .entry))) i) (limit .0) ⌝ }
 {
     let own = Ticks(board[OWNS + i]);
-    let limit = Ticks(board[LIMITS + i]);
     let mut counts = [1u64; 32];
     let mut ends = response::first_ends(board, i);
     let ticks = response::least(own, board, weights, i, limit, &mut counts, &mut ends);
     demand::told(ticks)
 }
 
-// The answer under one of the methods 0 to 4. Without reloads the weights are the tasks' work, which stands on the board.
-fn single(board: &[u64], method: u64, i: usize) -> Response
-    requires { ⌜ (method ≤ 4) × Lent (now board) (i + 1) ⌝ }
-    ensures { λ r. ⌜ r ≡ answerOn (now (board .entry)) method i ⌝ }
+// The same under one of the methods 0 to 4. Without reloads the weights are the tasks' work, which stands on the board.
+pub fn least_within(board: &[u64], method: u64, i: usize, limit: Ticks) -> Response
+    requires { ⌜ (method ≤ 4) × Lent (now board) (i + 1) × (limit .0 ≤ 250000000) ⌝ }
+    ensures { λ r. ⌜ r ≡ leastOn (now (board .entry)) method i (limit .0) ⌝ }
 {
     if method == 0 {
-        return by_weights(board, &board[WORKS..OWNS], i);
+        return by_weights(board, &board[WORKS..OWNS], i, limit);
     }
     let weights = costs::weights(board, method, i);
-    by_weights(board, &weights, i)
+    by_weights(board, &weights, i, limit)
 }
 
-// The same under one of the methods 0 to 5. Method 5 is the sooner of the answers of 3 and 4.
+// The answer under one of the methods 0 to 5: within the task's limit. Method 5 is the sooner of the answers of 3 and 4.
 fn respond_on(board: &[u64], method: u64, i: usize) -> Response
     requires { ⌜ (method ≤ 5) × Lent (now board) (i + 1) ⌝ }
     ensures { λ r. ⌜ r ≡ withCombined (λ m. answerOn (now (board .entry)) m i) method ⌝ }
 {
+    let limit = Ticks(board[LIMITS + i]);
     if method < 5 {
-        return single(board, method, i);
+        return least_within(board, method, i, limit);
     }
-    let third = single(board, 3, i);
-    let fourth = single(board, 4, i);
+    let third = least_within(board, 3, i, limit);
+    let fourth = least_within(board, 4, i, limit);
     demand::combined(third, fourth)
 }
 

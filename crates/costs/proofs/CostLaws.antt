@@ -13,12 +13,9 @@ use Rattle.costs.specs.Gather.{aff, unionOf, hit, largerOf, largestFrom,
 use Rattle.costs.specs.Costs.{noVictim, charges, chargeOf, reloadsOf}
 use Rattle.costs.proofs.HitLaws.{largest-count}
 
--- no reload count is above 2048
-size-most : (A : Set) → size A ≤ 2048
-size-most A = omega (arith, size-le A)
-
-pub hit-most : (p : ℕ) (F : ℕ → ℕ) (ks : List ℕ) → ((k : ℕ) → F k ≤ 2048) → largestFrom p F ks .reloads .0 ≤ 2048
-hit-most p F ks h = rw (largest-count p F ks) (fold-keeps max (λ b. b ≤ 2048) 0 F ks (omega arith) (λ b k q. omega (arith, h k)))
+-- no largest value is above what each value is not above
+pub hit-most : (p : ℕ) (F : ℕ → ℕ) (ks : List ℕ) {most : ℕ} → ((k : ℕ) → F k ≤ most) → largestFrom p F ks .reloads .0 ≤ most
+hit-most p F ks {most} h = rw (largest-count p F ks) (fold-keeps max (λ b. b ≤ most) 0 F ks (omega arith) (λ b k q. omega (arith, h k)))
 
 -- only the sets down to i count
 pub charge-same : (U E U′ E′ : ℕ → Set) (m i j : ℕ) → j < i → ((k : ℕ) → k ≤ i → U k ≡ U′ k) → ((k : ℕ) → k ≤ i → E k ≡ E′ k)
@@ -42,11 +39,15 @@ module _ (U E : ℕ → Set) (i j : ℕ) where
   pub charge-of : (m k : ℕ) → m ≡ k → chargeOf U E k i j ≡ chargeOf U E m i j
   charge-of m k e = ap (λ (n : ℕ). chargeOf U E n i j) (sym e)
 
-  pub reloads-most : (m : ℕ) → reloadsOf U E m i j ≤ 2048
+  -- no reload count is above the number of cache sets
+  pub reloads-few : (m : ℕ) → reloadsOf U E m i j ≤ 256
   unfolding reloadsOf
-  reloads-most zero = omega arith
-  reloads-most (suc zero) = size-most _
-  reloads-most (suc (suc zero)) = hit-most _ _ (aff i j) (λ k. size-most _)
-  reloads-most (suc (suc (suc zero))) = size-most _
-  reloads-most (suc (suc (suc (suc zero)))) = hit-most _ _ (aff i j) (λ k. size-most _)
-  reloads-most (suc (suc (suc (suc (suc m))))) = omega arith
+  reloads-few zero = omega arith
+  reloads-few (suc zero) = size-le _
+  reloads-few (suc (suc zero)) = hit-most _ _ (aff i j) (λ k. size-le _)
+  reloads-few (suc (suc (suc zero))) = size-le _
+  reloads-few (suc (suc (suc (suc zero)))) = hit-most _ _ (aff i j) (λ k. size-le _)
+  reloads-few (suc (suc (suc (suc (suc m))))) = omega arith
+
+  pub reloads-most : (m : ℕ) → reloadsOf U E m i j ≤ 2048
+  reloads-most m = omega (arith, reloads-few m)

@@ -44,7 +44,7 @@ pub enum Charge {
 
 impl Charge {
     // How many reloads, with or without a victim.
-    fn count(self) -> Reloads
+    pub fn count(self) -> Reloads
         ensures { λ r. ⌜ r .0 ≡ reloadsIn self ⌝ }
     {
         match self {

@@ -3,3 +3,4 @@ pub mod Steps
 pub mod Small
 pub mod Easier
 pub mod TableA
+pub mod Explanations

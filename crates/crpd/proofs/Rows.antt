@@ -1,6 +1,6 @@
 -- The rows of an accepted table's answers are what its report is made from.
 -- Assumes nothing.
-use Prim.Native.Nat.{ℕ, _≤_, _<_}
+use Prim.Native.Nat.{ℕ, _<_}
 use native.Mathlib.Omega.{arith}
 use mathlib.Core.Path.{_≡_, ap, _∙_}
 use mathlib.Core.Bool.{Bool, true, false, cond}
@@ -11,8 +11,8 @@ use Rattle.demand.specs.declared.Response.{Response}
 use Rattle.demand.specs.declared.Response.the-variants.{Within, Unschedulable}
 use Rattle.demand.specs.declared.Cell.{Cell}
 use Rattle.demand.specs.declared.Row.{Row}
-use Rattle.demand.specs.Least.{leastOf, LeastWithin, sooner}
-use Rattle.demand.proofs.LeastLaws.{leastOf-least}
+use Rattle.demand.specs.Least.{AnswerInRange, sooner}
+use Rattle.demand.proofs.LeastLaws.{least-in-range}
 use Rattle.tasks.specs.Tasks.{limitOf}
 use Rattle.table.specs.declared.Table.{Table}
 use Rattle.table.specs.Tasks.{at}
@@ -21,20 +21,12 @@ use Rattle.demand.proofs.FrontLaws.{front-at}
 use Rattle.analysis.specs.Analysis.{answerOf, responseOf, cell, rowOf, rowsOf}
 use Rattle.verdicts.specs.Rows.{blankCell, blankRow, answerUnder, answersIn}
 use Rattle.verdicts.proofs.Lists.{methods-at}
-use Rattle.report.specs.Rows.{AnswerInRange, Reportable}
+use Rattle.report.specs.Rows.{Reportable}
 use Rattle.report.specs.Report.{reportOf}
 use Rattle.report.proofs.Agree.{report-agrees}
 use Rattle.crpd.specs.Operations.{reportIn}
 
 -- ---- no response is above the longest deadline
-
-least-in-range : (f : ℕ → ℕ) (limit : ℕ) → limit ≤ 250000000 → AnswerInRange (leastOf f limit)
-unfolding LeastWithin
-least-in-range f limit h = go (leastOf f limit) (leastOf-least f limit)
-  where
-    go : (a : Response) → LeastWithin f limit a → AnswerInRange a
-    go (Within R) p = omega (arith, p .0)
-    go Unschedulable p = tt
 
 sooner-in-range : (a b : Response) → AnswerInRange a → AnswerInRange b → AnswerInRange (sooner a b)
 sooner-in-range (Within a) (Within b) p q = omega arith

@@ -2,10 +2,10 @@
 -- Assumes nothing.
 use Prim.Native.Nat.{ℕ, _≤_}
 use native.Mathlib.Omega.{arith}
-use mathlib.Core.Path.{_≡_, refl}
+use mathlib.Core.Path.{_≡_, refl, ap, _∙_}
 use mathlib.Core.Bool.{Bool, true, false, cond}
 use mathlib.Core.List.{List}
-use lib.Dec.{leb, ltb}
+use lib.Dec.{leb}
 use lib.ListN.{length}
 use Rattle.demand.specs.declared.Response.{Response}
 use Rattle.demand.specs.declared.Response.the-variants as response
@@ -20,8 +20,9 @@ use Rattle.delivery.specs.declared.Written.the-variants as written
 use Rattle.delivery.specs.Delivery.{writtenOf, Delivered}
 use Rattle.crpd.specs.declared.Reply.{Reply}
 use Rattle.crpd.specs.declared.Reply.the-variants.{Within, Unschedulable, Refused}
-use Rattle.crpd.specs.Operations.{replyOf, replyIn, unlessRefused, answerTo, reportIn, reportAnswer, TextReported}
-use Rattle.crpd.specs.Codes.{SmallRefusal, SmallWritten}
+use Rattle.crpd.specs.Operations.{replyOf, unlessRefused, answerTo, ruledAnswer, TextWritten, askedOf}
+use Rattle.crpd.specs.Codes.{SmallRefusal, writtenCode, SmallWritten, TextCoded}
+use Rattle.crpd.proofs.Steps.{asked-by, answer-asked}
 
 -- a number up to 14 that tells no line
 small : (n : ℕ) → n ≤ 14 → SmallRefusal (refusal n)
@@ -39,21 +40,30 @@ reply-of-small : (a : Response) → SmallReply (replyOf a)
 reply-of-small (response.Within R) = tt
 reply-of-small response.Unschedulable = tt
 
-reply-small : (text : List ℕ) (m i : ℕ) → SmallReply (answerTo text m i)
-unfolding answerTo
-reply-small text m i = method (ltb 5 m)
+abbrev pub SmallRuling : Ruling → Type 0
+SmallRuling ruling.Accepted = Unit {0}
+SmallRuling (ruling.Refused r) = SmallRefusal r
+
+refusal-small : (text : List ℕ) (r : Refusal) → readText text .ruling ≡ ruling.Refused r → SmallRefusal r
+refusal-small text r e = told-small r (read-told text r e)
+
+pub read-small : (text : List ℕ) → SmallRuling (readText text .ruling)
+read-small text = go (readText text .ruling) refl
   where
-    position : (t : Bool) → SmallReply (cond t (Refused (refusal 13)) (replyOf (responseOf (readText text .table) m i)))
-    position true = small 13 (omega arith)
-    position false = reply-of-small (responseOf (readText text .table) m i)
+    go : (v : Ruling) → readText text .ruling ≡ v → SmallRuling v
+    go ruling.Accepted e = tt
+    go (ruling.Refused r) e = refusal-small text r e
 
-    read : (v : Ruling) → readText text .ruling ≡ v → SmallReply (unlessRefused Refused v (replyIn (readText text .table) m i))
-    read ruling.Accepted e = position (leb (readText text .table .count) i)
-    read (ruling.Refused r) e = told-small r (read-told text r e)
+pub asked-small : (text : List ℕ) (m i : ℕ) → SmallRuling (askedOf text m i)
+unfolding askedOf
+asked-small text m i = asked-by SmallRuling m i (readText text .ruling) (readText text .table .count) (small 12 (omega arith)) (refusal-small text) (small 13 (omega arith)) (λ _. tt)
 
-    method : (t : Bool) → SmallReply (cond t (Refused (refusal 12)) (unlessRefused Refused (readText text .ruling) (replyIn (readText text .table) m i)))
-    method true = small 12 (omega arith)
-    method false = read (readText text .ruling) refl
+reply-small : (text : List ℕ) (m i : ℕ) → SmallReply (answerTo text m i)
+reply-small text m i = rw (← answer-asked text m i) (go (askedOf text m i) (asked-small text m i))
+  where
+    go : (v : Ruling) → SmallRuling v → SmallReply (unlessRefused Refused v (replyOf (responseOf (readText text .table) m i)))
+    go ruling.Accepted p = reply-of-small (responseOf (readText text .table) m i)
+    go (ruling.Refused r) p = p
 
 pub answer-small : (text : List ℕ) (m i : ℕ) (r : Refusal) → answerTo text m i ≡ Refused r → SmallRefusal r
 answer-small text m i r e = rw e at (reply-small text m i)
@@ -65,15 +75,16 @@ written-small text out = go (leb (length text) (length out))
     go true = tt
     go false = small 14 (omega arith)
 
-report-small : (text out : List ℕ) → SmallWritten (reportAnswer (readText text .ruling) (reportIn (readText text .table)) out)
-report-small text out = go (readText text .ruling) refl
-  where
-    go : (v : Ruling) → readText text .ruling ≡ v → SmallWritten (reportAnswer v (reportIn (readText text .table)) out)
-    go ruling.Accepted e = written-small (reportIn (readText text .table)) out
-    go (ruling.Refused r) e = told-small r (read-told text r e)
+ruled-small : (v : Ruling) (text out : List ℕ) → SmallRuling v → SmallWritten (ruledAnswer v text out)
+ruled-small ruling.Accepted text out p = written-small text out
+ruled-small (ruling.Refused r) text out p = p
 
 pub delivered-small : {text out : List ℕ} {w : Written} {after : List ℕ} → Delivered text out w after → SmallWritten w
 delivered-small {text} {out} d = rw (d .answer) (written-small text out)
 
-pub reported-small : {text out : List ℕ} {w : Written} {after : List ℕ} → TextReported text out w after → SmallWritten w
-reported-small {text} {out} r = rw (r .answer-is) (report-small text out)
+pub text-small : {ruled : Ruling} {most : ℕ} {text out : List ℕ} {w : Written} {after : List ℕ} → SmallRuling ruled → TextWritten ruled most text out w after → SmallWritten w
+text-small {ruled} {text} {out} p r = rw (r .answer-is) (ruled-small ruled text out p)
+
+-- so a written text is told by its number
+pub text-coded : {ruled : Ruling} {most : ℕ} {text out : List ℕ} {w : Written} {code : ℕ} {after : List ℕ} → code ≡ writtenCode w → TextWritten ruled most text out w after → TextCoded ruled text out code after
+text-coded e r = record { answer-is = e ∙ ap writtenCode (r .answer-is); buffer-is = r .buffer-is }

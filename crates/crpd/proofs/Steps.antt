@@ -1,58 +1,142 @@
 -- The operations step by step: what each return answers is what the definition says there.
 -- Assumes nothing.
-use Prim.Native.Nat.{ℕ, _≤_}
+use Prim.Native.Nat.{ℕ, _≤_, _<_}
 use mathlib.Core.Path.{_≡_, refl, sym, ap, _∙_}
+use mathlib.Core.Bool.{Bool, true, false, cond}
 use mathlib.Core.List.{List}
+use lib.Dec.{leb, ltb}
 use lib.ListN.{length}
-use borrow.Author.Tests.{le-ltb}
+use borrow.Author.Tests.{leb-false, ltb-false}
 use native.Mathlib.Omega.{arith}
 use Rattle.table.specs.declared.Refusal.{Refusal}
 use Rattle.table.specs.declared.Outcome.{Outcome}
 use Rattle.table.specs.declared.Ruling.{Ruling}
 use Rattle.table.specs.declared.Ruling.the-variants as ruling
-use Rattle.table.specs.Reading.{readText}
+use Rattle.table.specs.Reading.{refusal, readText}
 use Rattle.table.specs.Accepted.{AcceptedTable}
 use Rattle.table.proofs.AcceptedLaws.{accepted-table}
 use Rattle.writer.specs.Wrote.{Wrote}
 use Rattle.delivery.specs.declared.Written.{Written}
 use Rattle.delivery.specs.declared.Written.the-variants as written
-use Rattle.analysis.specs.Analysis.{responseOf}
+use Rattle.analysis.specs.Analysis.{responseOf, Answerable}
 use Rattle.report.specs.Reported.{Reported}
+use Rattle.explanation.specs.Explained.{Explained}
+use Rattle.delivery.specs.Delivery.{Delivered}
 use Rattle.delivery.specs.Error.{errorText}
 use Rattle.delivery.proofs.Deliveries.{fitting}
+use Rattle.crpd.specs.declared.Reply.{Reply}
 use Rattle.crpd.specs.declared.Reply.the-variants.{Refused}
-use Rattle.crpd.specs.Operations.{replyIn, answerTo, reportIn, printedOf, printed, TextReported}
+use Rattle.crpd.specs.Operations.{replyOf, unlessRefused, answerTo, TextWritten, reportIn, TextReported, askedRuling, askedOf, TextExplained, printedOf, printed}
+
+-- ---- a text that is written
+
+module _ {ruled : Ruling} {most : ℕ} {text out : List ℕ} where
+  pub text-refused : {r : Refusal} → ruled ≡ ruling.Refused r → TextWritten ruled most text out (written.Refused r) out
+  text-refused e = record {
+    answer-is = rw e;
+    buffer-is = rw e;
+    short = λ a. let z : _≡_ {A = ℕ} 0 1 = cc in absurd (omega arith);
+  }
+
+  pub text-accepted : {w : Written} {after : List ℕ} → ruled ≡ ruling.Accepted → Delivered text out w after → length text ≤ most → TextWritten ruled most text out w after
+  text-accepted e d h = record { answer-is = rw e (d .answer); buffer-is = rw e (d .buffer); short = λ _. h }
+
+-- ---- a task that is asked for
+
+-- where it may be asked for
+pub record Asked (m i : ℕ) (read : Ruling) (count : ℕ) : Type 0 where
+  pub method : m ≤ 5
+  pub accepted : read ≡ ruling.Accepted
+  pub held : i < count
+
+-- what holds of each ruling where it is given
+module _ (P : Ruling → Type 0) (m i : ℕ) (read : Ruling) (count : ℕ) (method-refused : P (ruling.Refused (refusal 12)))
+    (text-refused : (r : Refusal) → read ≡ ruling.Refused r → P (ruling.Refused r)) (position-refused : P (ruling.Refused (refusal 13)))
+    (accepted : Asked m i read count → P ruling.Accepted) where
+  pub asked-by : P (askedRuling m i read count)
+  asked-by = method (ltb 5 m) refl
+    where
+      position : m ≤ 5 → read ≡ ruling.Accepted → (t : Bool) → leb count i ≡ t → P (cond t (ruling.Refused (refusal 13)) ruling.Accepted)
+      position h e true l = position-refused
+      position h e false l = accepted (record { method = h; accepted = e; held = leb-false count i l })
+
+      text : m ≤ 5 → (v : Ruling) → read ≡ v → P (unlessRefused ruling.Refused v (cond (leb count i) (ruling.Refused (refusal 13)) ruling.Accepted))
+      text h ruling.Accepted e = position h e (leb count i) refl
+      text h (ruling.Refused r) e = text-refused r e
+
+      method : (t : Bool) → ltb 5 m ≡ t
+          → P (cond t (ruling.Refused (refusal 12)) (unlessRefused ruling.Refused read (cond (leb count i) (ruling.Refused (refusal 13)) ruling.Accepted)))
+      method true l = method-refused
+      method false l = text (ltb-false 5 m l) read refl
+
+pub asked-accepted : (m i : ℕ) (read : Ruling) (count : ℕ) → askedRuling m i read count ≡ ruling.Accepted → Asked m i read count
+asked-accepted m i read count =
+    asked-by (λ v. v ≡ ruling.Accepted → Asked m i read count) m i read count (refused _) (λ r _. refused r) (refused _) (λ a _. a)
+  where
+    refused : (r : Refusal) → ruling.Refused r ≡ ruling.Accepted → Asked m i read count
+    refused r e = let z : _≡_ {A = ℕ} 0 1 = cc in absurd (omega arith)
+
+-- one answer is refused as an explanation is, before the buffer is looked at
+module _ (m i count : ℕ) (reply : Reply) where
+  asked-position : (t : Bool) → unlessRefused Refused (cond t (ruling.Refused (refusal 13)) ruling.Accepted) reply ≡ cond t (Refused (refusal 13)) reply
+  asked-position true = refl
+  asked-position false = refl
+
+  asked-text : (v : Ruling) → unlessRefused Refused (unlessRefused ruling.Refused v (cond (leb count i) (ruling.Refused (refusal 13)) ruling.Accepted)) reply
+      ≡ unlessRefused Refused v (cond (leb count i) (Refused (refusal 13)) reply)
+  asked-text ruling.Accepted = asked-position (leb count i)
+  asked-text (ruling.Refused r) = refl
+
+  asked-method : (v : Ruling) (t : Bool)
+      → unlessRefused Refused (cond t (ruling.Refused (refusal 12)) (unlessRefused ruling.Refused v (cond (leb count i) (ruling.Refused (refusal 13)) ruling.Accepted))) reply
+      ≡ cond t (Refused (refusal 12)) (unlessRefused Refused v (cond (leb count i) (Refused (refusal 13)) reply))
+  asked-method v true = refl
+  asked-method v false = asked-text v
+
+module _ (text : List ℕ) (m i : ℕ) where
+  pub answer-asked : unlessRefused Refused (askedOf text m i) (replyOf (responseOf (readText text .table) m i)) ≡ answerTo text m i
+  unfolding askedOf answerTo
+  answer-asked = asked-method m i (readText text .table .count) (replyOf (responseOf (readText text .table) m i)) (readText text .ruling) (ltb 5 m)
+
+  pub answer-ruled : (v : Ruling) → askedOf text m i ≡ v → unlessRefused Refused v (replyOf (responseOf (readText text .table) m i)) ≡ answerTo text m i
+  answer-ruled v e = rw (← e) answer-asked
+
+-- ---- a text that was read
 
 module _ (text : List ℕ) (o : Outcome) (read : o ≡ readText text) where
-  ruling-is : (v : Ruling) → o .ruling ≡ v → readText text .ruling ≡ v
+  pub ruling-is : (v : Ruling) → o .ruling ≡ v → readText text .ruling ≡ v
   ruling-is v e = ap (λ (o : Outcome). o .ruling) (sym read) ∙ e
 
   pub outcome-accepted : o .ruling ≡ ruling.Accepted → AcceptedTable (o .table)
   outcome-accepted e = rw read (accepted-table text (ruling-is ruling.Accepted e))
 
-  module _ (m i : ℕ) (method : m ≤ 5) where
-    pub answer-refused : (r : Refusal) → o .ruling ≡ ruling.Refused r → Refused r ≡ answerTo text m i
-    unfolding answerTo
-    answer-refused r e = rw (le-ltb _ _ method, ruling-is (ruling.Refused r) e)
-
-    pub answer-accepted : o .ruling ≡ ruling.Accepted → replyIn (o .table) m i ≡ answerTo text m i
-    unfolding answerTo
-    answer-accepted e = rw (le-ltb _ _ method, ruling-is ruling.Accepted e, read)
-
-  pub report-refused : (r : Refusal) (out : List ℕ) → o .ruling ≡ ruling.Refused r → TextReported text out (written.Refused r) out
-  report-refused r out e = record {
-    answer-is = rw (ruling-is (ruling.Refused r) e);
-    buffer-is = rw (ruling-is (ruling.Refused r) e);
-    short = λ a. let z : _≡_ {A = ℕ} 0 1 = cc (ruling-is (ruling.Refused r) e) in absurd (omega arith);
-  }
-
   pub report-accepted : (out : List ℕ) (w : Written) (after : List ℕ) → o .ruling ≡ ruling.Accepted → Reported (o .table) (responseOf (o .table)) out w after
       → TextReported text out w after
-  report-accepted out w after e d = record {
-    answer-is = rw (ruling-is ruling.Accepted e, ← read) (d .delivered .answer);
-    buffer-is = rw (ruling-is ruling.Accepted e, ← read) (d .delivered .buffer);
-    short = λ _. rw (← read) (d .short);
-  }
+  report-accepted out w after e d = text-accepted (ruling-is ruling.Accepted e) (rw read at (d .delivered)) (rw read at (d .short))
+
+  -- of one task
+  module _ (m i : ℕ) (v : Ruling) (ruled : v ≡ askedRuling m i (o .ruling) (o .table .count)) where
+    asked-is : askedOf text m i ≡ v
+    unfolding askedOf
+    asked-is = rw (← read) (sym ruled)
+
+    pub answer-refused : (r : Refusal) → v ≡ ruling.Refused r → Refused r ≡ answerTo text m i
+    answer-refused r e = answer-ruled text m i (ruling.Refused r) (asked-is ∙ e)
+
+    pub explain-refused : (r : Refusal) (out : List ℕ) → v ≡ ruling.Refused r → TextExplained text m i out (written.Refused r) out
+    explain-refused r out e = text-refused (asked-is ∙ e)
+
+    module _ (e : v ≡ ruling.Accepted) where
+      pub asked-answerable : Answerable 5 (o .table) m i
+      asked-answerable =
+          let a = asked-accepted m i (o .ruling) (o .table .count) (sym ruled ∙ e) in
+          record { method = a .method; held = a .held; accepted = outcome-accepted (a .accepted) }
+
+      pub answer-accepted : replyOf (responseOf (o .table) m i) ≡ answerTo text m i
+      answer-accepted = rw read (answer-ruled text m i ruling.Accepted (asked-is ∙ e))
+
+      pub explain-accepted : (out : List ℕ) (w : Written) (after : List ℕ) → Explained (o .table) m i out w after → TextExplained text m i out w after
+      explain-accepted out w after d = text-accepted (asked-is ∙ e) (rw read at (d .delivered)) (rw read at (d .short))
 
 -- ---- what is printed
 

@@ -27,7 +27,7 @@ use Rattle.report.specs.Report.{responseLine, reportOf}
 use Rattle.crpd.specs.Operations.{printed}
 
 -- K 4 1; T a 1 20 20 0 0 0 f; T b 2 40 40 0 0 3 f; T c 2 60 60 0 0 c f
-abbrev text : List ℕ
+abbrev pub text : List ℕ
 text =
     75 ∷ 9 ∷ 52 ∷ 9 ∷ 49 ∷ 10 ∷
     84 ∷ 9 ∷ 97 ∷ 9 ∷ 49 ∷ 9 ∷ 50 ∷ 48 ∷ 9 ∷ 50 ∷ 48 ∷ 9 ∷ 48 ∷ 9 ∷ 48 ∷ 9 ∷ 48 ∷ 9 ∷ 102 ∷ 10 ∷

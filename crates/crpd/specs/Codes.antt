@@ -6,11 +6,13 @@ use mathlib.Core.Path.{_≡_}
 use mathlib.Core.List.{List}
 use Rattle.table.specs.Reading.{readText}
 use Rattle.table.specs.declared.Refusal.{Refusal}
+use Rattle.table.specs.declared.Ruling.{Ruling}
 use Rattle.delivery.specs.declared.Written.{Written}
 use Rattle.delivery.specs.declared.Written.the-variants as written
 use Rattle.delivery.specs.Delivery.{writtenOf, bufferOf}
 use Rattle.crpd.specs.declared.Reply.{Reply}
-use Rattle.crpd.specs.Operations.{reportIn, reportAnswer, reportBuffer}
+use Rattle.explanation.specs.Explanation.{explanationOf}
+use Rattle.crpd.specs.Operations.{ruledAnswer, ruledBuffer, reportIn, askedOf}
 use Rattle.crpd.specs.declared.Reply.the-variants.{Within, Unschedulable, Refused}
 
 -- the refusals that there are: up to number 14, and lines of a text of at most 16,384 bytes
@@ -35,10 +37,16 @@ abbrev pub SmallWritten : Written → Type 0
 SmallWritten (written.Length n) = Unit {0}
 SmallWritten (written.Refused r) = SmallRefusal r
 
--- the report's number, and the buffer
-pub record ReportCoded (text before : List ℕ) (code : ℕ) (after : List ℕ) : Type 0 where
-  pub answer-is : code ≡ writtenCode (reportAnswer (readText text .ruling) (reportIn (readText text .table)) before)
-  pub buffer-is : after ≡ reportBuffer (readText text .ruling) (reportIn (readText text .table)) before
+-- the number of a text that is written unless a ruling refuses, and the buffer
+pub record TextCoded (ruled : Ruling) (text before : List ℕ) (code : ℕ) (after : List ℕ) : Type 0 where
+  pub answer-is : code ≡ writtenCode (ruledAnswer ruled text before)
+  pub buffer-is : after ≡ ruledBuffer ruled text before
+
+abbrev pub ReportCoded : List ℕ → List ℕ → ℕ → List ℕ → Type 0
+ReportCoded text = TextCoded (readText text .ruling) (reportIn (readText text .table))
+
+abbrev pub ExplanationCoded : List ℕ → ℕ → ℕ → List ℕ → ℕ → List ℕ → Type 0
+ExplanationCoded text m i = TextCoded (askedOf text m i) (explanationOf (readText text .table) m i)
 
 -- the number of a text that is delivered whole or refused, and the buffer
 pub record DeliveryCoded (text before : List ℕ) (code : ℕ) (after : List ℕ) : Type 0 where

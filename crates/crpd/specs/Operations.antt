@@ -17,6 +17,7 @@ use Rattle.analysis.specs.Analysis.{responseOf}
 use Rattle.delivery.specs.declared.Written.{Written}
 use Rattle.delivery.specs.declared.Written.the-variants as written
 use Rattle.report.specs.Report.{reportOf}
+use Rattle.explanation.specs.Explanation.{explanationOf}
 use Rattle.delivery.specs.Delivery.{writtenOf, bufferOf}
 use Rattle.delivery.specs.Error.{errorText}
 use Rattle.crpd.specs.declared.Reply.{Reply}
@@ -42,26 +43,46 @@ unfoldable pub answerTo : List ℕ → ℕ → ℕ → Reply
 answerTo text m i =
     cond (ltb 5 m) (Refused (refusal 12)) (unlessRefused Refused (readText text .ruling) (replyIn (readText text .table) m i))
 
--- ---- the report
+-- ---- a text that is written, unless a ruling refuses
+
+-- the ruling's refusal, and then 14, where the text is longer than the buffer
+abbrev pub ruledAnswer : Ruling → List ℕ → List ℕ → Written
+ruledAnswer ruling.Accepted text before = writtenOf text before
+ruledAnswer (ruling.Refused r) text before = written.Refused r
+
+-- a refused text leaves the buffer as it was
+abbrev pub ruledBuffer : Ruling → List ℕ → List ℕ → List ℕ
+ruledBuffer ruling.Accepted text before = bufferOf text before
+ruledBuffer (ruling.Refused r) text before = before
+
+-- the answer, the buffer, and how long the text can be
+pub record TextWritten (ruled : Ruling) (most : ℕ) (text before : List ℕ) (answer : Written) (after : List ℕ) : Type 0 where
+  pub answer-is : answer ≡ ruledAnswer ruled text before
+  pub buffer-is : after ≡ ruledBuffer ruled text before
+  pub short : ruled ≡ ruling.Accepted → length text ≤ most
+
+-- ---- the report: the text's refusals, and then 14
 
 -- the report of an accepted table
 abbrev pub reportIn : Table → List ℕ
 reportIn table = reportOf table (responseOf table)
 
--- the text's refusals, and then 14, where the report is longer than the buffer
-abbrev pub reportAnswer : Ruling → List ℕ → List ℕ → Written
-reportAnswer ruling.Accepted text before = writtenOf text before
-reportAnswer (ruling.Refused r) text before = written.Refused r
+abbrev pub TextReported : List ℕ → List ℕ → Written → List ℕ → Type 0
+TextReported text = TextWritten (readText text .ruling) 2746 (reportIn (readText text .table))
 
--- a refused report leaves the buffer as it was
-abbrev pub reportBuffer : Ruling → List ℕ → List ℕ → List ℕ
-reportBuffer ruling.Accepted text before = bufferOf text before
-reportBuffer (ruling.Refused r) text before = before
+-- ---- an explanation: 12 where there is no such method, then the text's refusals, then 13 where there is no task at the position, and then 14
 
-pub record TextReported (text before : List ℕ) (answer : Written) (after : List ℕ) : Type 0 where
-  pub answer-is : answer ≡ reportAnswer (readText text .ruling) (reportIn (readText text .table)) before
-  pub buffer-is : after ≡ reportBuffer (readText text .ruling) (reportIn (readText text .table)) before
-  pub short : readText text .ruling ≡ ruling.Accepted → length (reportIn (readText text .table)) ≤ 2746
+abbrev pub askedRuling : ℕ → ℕ → Ruling → ℕ → Ruling
+askedRuling m i read count =
+    cond (ltb 5 m) (ruling.Refused (refusal 12))
+    (unlessRefused ruling.Refused read (cond (leb count i) (ruling.Refused (refusal 13)) ruling.Accepted))
+
+-- the ruling on a text of which the task at i is asked for under method m
+unfoldable pub askedOf : List ℕ → ℕ → ℕ → Ruling
+askedOf text m i = askedRuling m i (readText text .ruling) (readText text .table .count)
+
+abbrev pub TextExplained : List ℕ → ℕ → ℕ → List ℕ → Written → List ℕ → Type 0
+TextExplained text m i = TextWritten (askedOf text m i) 1317 (explanationOf (readText text .table) m i)
 
 -- ---- what the program prints: the report, or the line of the refusal
 

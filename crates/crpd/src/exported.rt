@@ -1,6 +1,7 @@
 // The operations for programs in other languages: byte slices and numbers in, one number out. specs/Codes.antt says what the number means.
 use crate::Reply;
 use crate::answer;
+use crate::explain;
 use crate::print;
 use crate::report;
 use delivery::Written;
@@ -8,7 +9,7 @@ use delivery::deliver;
 use table::Refusal;
 ghost use mathlib.Core.Path.{_≡_};
 ghost use Rattle.crpd.specs.Operations.{answerTo, printed};
-ghost use Rattle.crpd.specs.Codes.{SmallRefusal, refusalCode, SmallWritten, writtenCode, answerCode, ReportCoded, DeliveryCoded};
+ghost use Rattle.crpd.specs.Codes.{SmallRefusal, refusalCode, SmallWritten, writtenCode, answerCode, ReportCoded, ExplanationCoded, DeliveryCoded};
 
 fn refusal_code(refusal: Refusal) -> u64
     requires { ⌜ SmallRefusal refusal ⌝ }
@@ -45,6 +46,14 @@ pub extern "C" fn crpd_report(text: &[u8], out: &mut [u8]) -> u64
     ensures { λ r. ⌜ ReportCoded (now (text .entry)) (now (out .entry)) r (now (out .exit)) ⌝ }
 {
     written_code(report(text, out))
+}
+
+// The length of the explanation of that response, which then stands at the start of the buffer.
+#[no_mangle]
+pub extern "C" fn crpd_explain(text: &[u8], method: u64, position: u64, out: &mut [u8]) -> u64
+    ensures { λ r. ⌜ ExplanationCoded (now (text .entry)) method position (now (out .entry)) r (now (out .exit)) ⌝ }
+{
+    written_code(explain(text, method, position, out))
 }
 
 // The length of what the program prints, which then stands at the start of the buffer.

@@ -1,4 +1,4 @@
-// The public operations on a table text: one answer, the report, and what the program prints. They take every text, number and buffer, and
+// The public operations on a table text: one answer, the report, what the program prints, and the explanation of an answer. They take every text, number and buffer, and
 // ask nothing of their caller.
 pub mod exported;
 
@@ -9,12 +9,11 @@ use table::Ruling;
 use table::Table;
 use units::Ticks;
 ghost use mathlib.Core.Path.{_≡_};
-ghost use Prim.Native.Nat.{_≤_};
 ghost use Rattle.table.specs.Accepted.{AcceptedTable};
 ghost use Rattle.writer.specs.Wrote.{Wrote};
 ghost use Rattle.analysis.specs.Analysis.{responseOf};
 ghost use Rattle.report.specs.Reported.{Reported};
-ghost use Rattle.crpd.specs.Operations.{replyOf, replyIn, answerTo, TextReported, printed};
+ghost use Rattle.crpd.specs.Operations.{replyOf, askedRuling, answerTo, TextReported, TextExplained, printed};
 
 // What is answered of a task under a method.
 pub enum Reply {
@@ -32,37 +31,40 @@ fn reply_of(response: Response) -> Reply
     }
 }
 
-fn reply_in(table: Table, method: u64, position: u64) -> Reply
-    requires { ⌜ (method ≤ 5) × AcceptedTable table ⌝ }
-    ensures { λ r. ⌜ r ≡ replyIn table method position ⌝ }
+// The ruling where a task is asked for under a method: of the text, as it was read with so many tasks, and of the method and the position.
+fn asked(method: u64, position: u64, read: Ruling, count: usize) -> Ruling
+    ensures { λ r. ⌜ r ≡ askedRuling method position read count ⌝ }
 {
-    let count = table.count;
+    if 5 < method {
+        return Ruling::Refused(Refusal {
+            number: 12,
+            line: 0,
+        });
+    }
+    if let Ruling::Refused(refusal) = read {
+        return Ruling::Refused(refusal);
+    }
     if count as u64 <= position {
-        return Reply::Refused(Refusal {
+        return Ruling::Refused(Refusal {
             number: 13,
             line: 0,
         });
     }
-    reply_of(analysis::respond(table, method, position as usize))
+    Ruling::Accepted
 }
 
 // The answer for the task at a position under a method.
 pub fn answer(text: &[u8], method: u64, position: u64) -> Reply
     ensures { λ r. ⌜ r ≡ answerTo (now (text .entry)) method position ⌝ }
 {
-    if 5 < method {
-        return Reply::Refused(Refusal {
-            number: 12,
-            line: 0,
-        });
-    }
     let outcome = table::read(text);
-    let ruling = outcome.ruling;
+    let read = outcome.ruling;
+    let table = outcome.table;
+    let ruling = asked(method, position, read, table.count);
     if let Ruling::Refused(refusal) = ruling {
         return Reply::Refused(refusal);
     }
-    let table = outcome.table;
-    reply_in(table, method, position)
+    reply_of(analysis::respond(table, method, position as usize))
 }
 
 fn report_in(table: Table, out: &mut [u8]) -> Written
@@ -83,6 +85,20 @@ pub fn report(text: &[u8], out: &mut [u8]) -> Written
     }
     let table = outcome.table;
     report_in(table, out)
+}
+
+// The explanation of what a method answers for the task at a position, at the start of the buffer, or a refusal that leaves the buffer as it was.
+pub fn explain(text: &[u8], method: u64, position: u64, out: &mut [u8]) -> Written
+    ensures { λ r. ⌜ TextExplained (now (text .entry)) method position (now (out .entry)) r (now (out .exit)) ⌝ }
+{
+    let outcome = table::read(text);
+    let read = outcome.ruling;
+    let table = outcome.table;
+    let ruling = asked(method, position, read, table.count);
+    if let Ruling::Refused(refusal) = ruling {
+        return Written::Refused(refusal);
+    }
+    explanation::explain(table, method, position as usize, out)
 }
 
 // What the program prints, at the start of the buffer: the report, or the line of the text's refusal. The longest fits.

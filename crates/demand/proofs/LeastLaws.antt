@@ -12,7 +12,7 @@ use borrow.Author.Tests.{eqb-true, eqb-false}
 use Rattle.units.specs.declared.Ticks.{Ticks}
 use Rattle.demand.specs.declared.Response.{Response}
 use Rattle.demand.specs.declared.Response.the-variants.{Within, Unschedulable}
-use Rattle.demand.specs.Least.{firstOf, leastOf, toldOf, LeastWithin, Reached, NoLater}
+use Rattle.demand.specs.Least.{firstOf, leastOf, toldOf, LeastWithin, AnswerInRange, Reached, NoLater}
 
 abbrev pub Monotone : (ℕ → ℕ) → Type 0
 Monotone f = (a b : ℕ) → a ≤ b → f a ≤ f b
@@ -52,6 +52,14 @@ leastOf-least f limit = first-least f limit 0 (suc limit) (omega arith) (λ x p.
 -- the function and the relation are one
 pub least-is : (f : ℕ → ℕ) (limit : ℕ) (a : Response) → LeastWithin f limit a → a ≡ leastOf f limit
 least-is f limit a p = least-unique f limit a (leastOf f limit) p (leastOf-least f limit)
+
+pub least-in-range : (f : ℕ → ℕ) (limit : ℕ) → limit ≤ 250000000 → AnswerInRange (leastOf f limit)
+unfolding LeastWithin
+least-in-range f limit h = go (leastOf f limit) (leastOf-least f limit)
+  where
+    go : (a : Response) → LeastWithin f limit a → AnswerInRange a
+    go (Within R) p = omega (arith, p .0)
+    go Unschedulable p = tt
 
 -- an answer that is not 0
 pub told-some : (n : ℕ) → 1 ≤ n → toldOf n ≡ Within (record { 0 = n })

@@ -26,6 +26,11 @@ unfoldable pub LeastWithin : (ℕ → ℕ) → ℕ → Response → Type 0
 LeastWithin f limit (Within R) = (R .0 ≤ limit) × (R .0 ≡ f (R .0)) × ((s : ℕ) → s ≡ f s → R .0 ≤ s)
 LeastWithin f limit Unschedulable = (s : ℕ) → s ≡ f s → s ≤ limit → ⊥
 
+-- no response time is longer than the longest deadline
+abbrev pub AnswerInRange : Response → Type 0
+AnswerInRange (Within t) = t .0 ≤ 250000000
+AnswerInRange Unschedulable = Unit {0}
+
 -- what the iteration keeps of the time that it has come to: no solution lies below it, and its demand is no less
 pub record Reached (f : ℕ → ℕ) (r : ℕ) : Type 0 where
   pub below : (s : ℕ) → s ≡ f s → r ≤ s

@@ -7,12 +7,12 @@ use lib.ListN.{length}
 use Rattle.demand.specs.declared.Response.{Response}
 use Rattle.demand.specs.declared.Response.the-variants.{Within, Unschedulable}
 use Rattle.demand.specs.Positions.{methods}
+use Rattle.demand.specs.Least.{AnswerInRange}
 use Rattle.tasks.specs.declared.Task.{Task}
 use Rattle.tasks.specs.Tasks.{nameText, limitOf}
 use Rattle.writer.specs.Text.{spelled, afterTab}
 use Rattle.writer.proofs.Spelling.{spelled-short}
 use Rattle.report.specs.Report.{answerText, responseLine}
-use Rattle.report.specs.Rows.{AnswerInRange}
 
 pub answer-short : (a : Response) → AnswerInRange a → length (answerText a) ≤ 9
 answer-short (Within t) h = spelled-short 8 (t .0) (omega arith)

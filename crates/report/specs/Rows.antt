@@ -1,23 +1,17 @@
 -- What the report is made from: a table, and the rows of its answers. Assumes nothing.
 use Prim.Native.Nat.{ℕ, _≤_, _<_}
 use mathlib.Core.List.{List}
-use Rattle.demand.specs.declared.Response.{Response}
-use Rattle.demand.specs.declared.Response.the-variants.{Within, Unschedulable}
 use Rattle.demand.specs.declared.Row.{Row}
+use Rattle.demand.specs.Least.{AnswerInRange}
 use Rattle.tasks.specs.declared.Task.{Task}
 use Rattle.table.specs.declared.Table.{Table}
 use Rattle.table.specs.Accepted.{AcceptedTable}
 use Rattle.verdicts.specs.Rows.{answerUnder, answersIn}
 
--- no response time is longer than the longest deadline
-abbrev pub AnswerInRange : Response → Type 0
-AnswerInRange (Within t) = t .0 ≤ 250000000
-AnswerInRange Unschedulable = Unit {0}
-
 abbrev pub RowInRange : Row → Type 0
 RowInRange row = (m : ℕ) → m < 6 → AnswerInRange (answerUnder row m)
 
--- a task's limit is no longer than that, too
+-- a task's limit is no longer than the longest deadline, too
 abbrev pub Limited : Task → Type 0
 Limited task = (task .jitter .0 ≤ task .deadline .0) × (task .deadline .0 ≤ 250000000)
 

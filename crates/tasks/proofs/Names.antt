@@ -46,13 +46,20 @@ unpacked (b ∷ f) z e h =
     let ne : b ≡ 0 → ⊥ = (λ q. false≢true (rw q at p .0)) in
     rw (ne-eqb b 0 ne) (ap (λ (l : List ℕ). b ∷ l) (unpacked f z e (p .1)))
 
--- the name in the 12 bytes is the field that was packed
-pub name-kept : (f : List ℕ) → isName f ≡ true → nameText (packName f) ≡ f
-unfolding isName
-name-kept f h =
-    let p = and-eq-true-iff (leb 1 (length f) && leb (length f) 12) (everyByte isNameByte f) .0 h in
-    let q = and-eq-true-iff (leb 1 (length f)) (leb (length f) 12) .0 (p .0) in
-    rw (take-all 12 f (leb-true (length f) 12 (q .1))) (unpacked f (drop (length f) (replicate 12 0)) (only-zeros (length f) 12) (p .1))
+module _ (f : List ℕ) (h : isName f ≡ true) where
+  name-bytes : everyByte isNameByte f ≡ true
+  unfolding isName
+  name-bytes = and-eq-true-iff (leb 1 (length f) && leb (length f) 12) (everyByte isNameByte f) .0 h .1
+
+  pub name-short : length f ≤ 12
+  unfolding isName
+  name-short =
+      let p = and-eq-true-iff (leb 1 (length f) && leb (length f) 12) (everyByte isNameByte f) .0 h in
+      leb-true (length f) 12 (and-eq-true-iff (leb 1 (length f)) (leb (length f) 12) .0 (p .0) .1)
+
+  -- the name in the 12 bytes is the field that was packed
+  pub name-kept : nameText (packName f) ≡ f
+  name-kept = rw (take-all 12 f name-short) (unpacked f (drop (length f) (replicate 12 0)) (only-zeros (length f) 12) name-bytes)
 
 -- a name has one spelling
 pub name-unique : (f g : List ℕ) → isName f ≡ true → isName g ≡ true → packName f ≡ packName g → f ≡ g

@@ -8,11 +8,11 @@ use Rattle.analysis.proofs.by_weights.Statement.{statement}
 use Rattle.analysis.proofs.by_weights.Tie as tie
 
 first-ends-requires : tie.Need-first-ends-requires
-first-ends-requires c κs = handed-firsts (c .before .before .before .before .pre .1)
+first-ends-requires c κs = handed-firsts (c .before .before .before .pre .1)
 
 least-requires : tie.Need-least-requires
 least-requires c κs =
-    let handed = c .before .before .before .before .before .before .before .pre .1 in
+    let handed = c .before .before .before .before .before .before .pre .1 in
     rw (c .before .before .first-ends .ensures) (handed, ones-started handed)
 
 returns : tie.Need-returns
@@ -25,9 +25,6 @@ by-weights-spec =
     (λ c. let p = c .before .before .pre in omega (arith, p .1 .few))
     (λ c. let p = c .before .before .pre in omega (arith, p .1 .few))
     (λ c. let p = c .before .before .before .pre in omega (arith, p .1 .few, lent-long (p .0)))
-    (λ c. let p = c .before .before .before .pre in omega (arith, p .1 .few))
-    (λ c. let p = c .before .before .before .pre in omega (arith, p .1 .few))
-    (λ c. let p = c .before .before .before .before .pre in omega (arith, p .1 .few, lent-long (p .0)))
     first-ends-requires
     least-requires
     (λ c κs. search needs)

@@ -1,6 +1,6 @@
 -- `crpd::report` meets its contract, by the reading's ruling.
 -- Assumes nothing.
-use Rattle.crpd.proofs.Steps.{outcome-accepted, report-refused, report-accepted}
+use Rattle.crpd.proofs.Steps.{outcome-accepted, ruling-is, text-refused, report-accepted}
 use borrow.Author.Needs.{needs}
 use Rattle.crpd.proofs.report.Statement.{statement}
 use Rattle.crpd.proofs.report.Tie as tie
@@ -13,7 +13,7 @@ enum-known-ruling c = search needs
 
 returns : tie.Need-returns
 returns c =
-    report-refused _ (c .before .before .before .read .result) (c .before .before .before .read .ensures) _ _ (c .before .ruling .given .1)
+    text-refused (ruling-is _ (c .before .before .before .read .result) (c .before .before .before .read .ensures) _ (c .before .ruling .given .1))
 
 enum-told : tie.Need-enum-told
 enum-told c = search needs

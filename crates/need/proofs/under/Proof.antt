@@ -1,0 +1,12 @@
+-- `need::under` meets its contract. Assumes nothing.
+use mathlib.Core.Path.{ap}
+use borrow.Author.Needs.{needs}
+use Rattle.demand.specs.declared.Response.{Response}
+use Rattle.need.proofs.under.Statement.{statement}
+use Rattle.need.proofs.under.Tie as tie
+
+returns : tie.Need-returns
+returns c = ap (λ (t : Response). record { method = c .before .before .args .method; time = t }) (c .least-within .ensures)
+
+pub under-spec : {M : Type 1} → statement M
+under-spec = tie.close (tie.spec (λ c κs. search needs) returns)
