@@ -45,16 +45,24 @@ passed=${last%% passed*}
 failed=${last##*, }
 failed=${failed% failed}
 
-for error in 1 2 3 4 5 5b 6; do
-    compare --error "$error" --percent 3
+# Whether a group of the comparison ($1) shows the error ($2).
+find_error() {
+    compare --error "$2" --percent 3
     status=$?
-    if [ "$status" = 1 ] && grep -q '^mismatch: valid texts' "$log"; then
-        printf 'error %s is found: %s\n' "$error" "$(sed -n 's/^ *\(.* DIFFER\)$/\1/p' "$log")"
+    if [ "$status" = 1 ] && grep -q "^mismatch: $1: " "$log"; then
+        printf 'error %s is found: %s\n' "$2" "$(sed -n "s/^ *\(.* of: $1, .* DIFFER\)\$/\1/p" "$log")"
         passed=$((passed + 1))
     else
-        printf 'error %s is NOT found (status %s)\n' "$error" "$status"
+        printf 'error %s is NOT found (status %s)\n' "$2" "$status"
         failed=$((failed + 1))
     fi
+}
+
+for error in 1 2 3 4 5 5b 6; do
+    find_error 'valid texts' "$error"
+done
+for error in 7 8 9 10 11 12 13; do
+    find_error explanations "$error"
 done
 printf '%s passed, %s failed\n' "$passed" "$failed"
 [ "$failed" = 0 ]

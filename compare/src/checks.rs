@@ -1,9 +1,9 @@
 //! Asking the model and the library the same, and telling where they differ.
 
 use crate::library;
-use crate::model::{Error, Outcome, Refusal, METHODS};
+use crate::model::{fitting, Error, Explanation, Explanations, Outcome, Refusal, METHODS};
 
-/// Room for every report and every refusal line.
+/// Room for every report, every explanation and every refusal line.
 const ROOMY: usize = 2_800;
 
 /// Bytes on either side of a buffer that have to stay as they are.
@@ -26,28 +26,28 @@ pub fn whole(text: &[u8], outcome: &Outcome) -> Compared {
     Ok(2)
 }
 
-/// Every method up to two past the last and every position up to two past the end, and numbers at
-/// the ends of what their types hold.
+/// Single answers to all questions.
 pub fn answers(text: &[u8], outcome: &Outcome) -> Compared {
-    let tasks = outcome.rows().len();
-    let positions: Vec<u64> = (0..tasks as u64 + 3).collect();
-    let mut compared = 0;
-    for method in 0..METHODS + 2 {
-        compared += answers_at(text, outcome, &[method], &positions)?;
-    }
-    let ends = [u64::MAX, 1 << 63, 1 << 32, 1 << 31, 1 << 16, 1 << 8];
-    compared += answers_at(text, outcome, &[0, 5, 6], &ends)?;
-    compared += answers_at(text, outcome, &ends, &[0, tasks as u64, u64::MAX])?;
-    Ok(compared)
+    let answered = |(method, position)| answer(text, outcome, method, position);
+    questions(outcome).into_iter().map(answered).sum()
 }
 
-fn answers_at(text: &[u8], outcome: &Outcome, methods: &[u64], positions: &[u64]) -> Compared {
-    for method in methods {
-        for position in positions {
-            answer(text, outcome, *method, *position)?;
-        }
-    }
-    Ok((methods.len() * positions.len()) as u64)
+/// Methods and positions: every method up to two past the last with every position up to two past
+/// the end, and numbers at the ends of what their types hold.
+fn questions(outcome: &Outcome) -> Vec<(u64, u64)> {
+    let tasks = outcome.rows().len() as u64;
+    let positions: Vec<u64> = (0..tasks + 3).collect();
+    let methods: Vec<u64> = (0..METHODS + 2).collect();
+    let ends = [u64::MAX, 1 << 63, 1 << 32, 1 << 31, 1 << 16, 1 << 8];
+    let mut questions: Vec<(u64, u64)> = pairs(&methods, &positions).collect();
+    questions.extend(pairs(&[0, 5, 6], &ends));
+    questions.extend(pairs(&ends, &[0, tasks, u64::MAX]));
+    questions
+}
+
+fn pairs<'a>(methods: &'a [u64], positions: &'a [u64]) -> impl Iterator<Item = (u64, u64)> + 'a {
+    let with = move |method| positions.iter().map(move |position| (method, *position));
+    methods.iter().copied().flat_map(with)
 }
 
 pub fn answer(text: &[u8], outcome: &Outcome, method: u64, position: u64) -> Compared {
@@ -73,6 +73,65 @@ pub fn report_rooms(text: &[u8], outcome: &Outcome) -> Compared {
 pub fn print_rooms(text: &[u8], outcome: &Outcome) -> Compared {
     let most = outcome.print(ROOMY).map_or(20, <[u8]>::len) + 3;
     (0..=most).map(|room| print_in(text, outcome, room)).sum()
+}
+
+/// Explanations in answer to all questions, with room to spare.
+pub fn explanations(text: &[u8], outcome: &Outcome) -> Compared {
+    let explanations = outcome.explanations();
+    let explained = |(method, position)| {
+        let asked = Asked::of(&explanations, method, position);
+        asked.explained_in(text, asked.length() + 20)
+    };
+    questions(outcome).into_iter().map(explained).sum()
+}
+
+/// Explanations of the first and the last task, and refused ones, into buffers of every length up
+/// to three past the text.
+pub fn explanation_rooms(text: &[u8], outcome: &Outcome) -> Compared {
+    let explanations = outcome.explanations();
+    let tasks = outcome.rows().len() as u64;
+    let last = tasks.saturating_sub(1);
+    let explained = |(method, position)| -> Compared {
+        let asked = Asked::of(&explanations, method, position);
+        let rooms = 0..=asked.length() + 3;
+        rooms.map(|room| asked.explained_in(text, room)).sum()
+    };
+    let questions = [(0, 0), (2, last), (5, last), (5, tasks), (6, last)];
+    questions.into_iter().map(explained).sum()
+}
+
+/// An explanation that is asked for, and what the model has to say.
+struct Asked {
+    method: u64,
+    position: u64,
+    expected: Result<Vec<u8>, Refusal>,
+}
+
+impl Asked {
+    fn of(explanations: &Explanations, method: u64, position: u64) -> Asked {
+        let explained = explanations.explain(method, position);
+        let bytes = |explanation: Explanation| explanation.text().into_bytes();
+        Asked {
+            method,
+            position,
+            expected: explained.map(bytes),
+        }
+    }
+
+    fn length(&self) -> usize {
+        self.expected.as_ref().map_or(20, Vec::len)
+    }
+
+    fn explained_in(&self, text: &[u8], room: usize) -> Compared {
+        let (method, position) = (self.method, self.position);
+        let what = format!("explanation of method {method} at position {position}");
+        let expected = match &self.expected {
+            Ok(bytes) => fitting(bytes, room),
+            Err(refusal) => Err(*refusal),
+        };
+        let call = |out: &mut [u8]| library::explain(text, method, position, out);
+        written(&what, room, expected, call)
+    }
 }
 
 fn report_in(text: &[u8], outcome: &Outcome, room: usize) -> Compared {

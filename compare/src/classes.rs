@@ -1,6 +1,8 @@
 //! What the made-up texts have to reach at least once.
 
-use crate::model::{Row, Table, Task};
+mod explained;
+
+use crate::model::{Outcome, Row, Table, Task};
 use std::collections::BTreeMap;
 
 type OfTable = (&'static str, fn(&Table) -> bool);
@@ -107,6 +109,9 @@ impl Classes {
         for name in names.chain(OF_ROW.iter().map(|class| class.0)) {
             classes.require(name);
         }
+        for name in explained::all() {
+            classes.require(&name);
+        }
         classes
     }
 
@@ -131,6 +136,18 @@ impl Classes {
         }
         for (name, holds) in OF_ROW {
             self.reach_if(name, rows.iter().any(holds));
+        }
+    }
+
+    pub fn reach_explained(&mut self, outcome: &Outcome) {
+        for name in explained::reached(outcome) {
+            self.reach(&name);
+        }
+    }
+
+    pub fn reach_explained_in_rooms(&mut self, outcome: &Outcome) {
+        for name in explained::reached_in_rooms(outcome) {
+            self.reach(&name);
         }
     }
 

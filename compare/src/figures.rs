@@ -1,6 +1,7 @@
 //! The worked figures of the rules, and the values they give.
 
-use crate::model::Refusal;
+use crate::library;
+use crate::model::{Outcome, Refusal};
 
 /// What is asked of a text, and the value that the rules give for it.
 pub enum Expected {
@@ -10,13 +11,69 @@ pub enum Expected {
     NoResponse(u64, u64),
     Report(String),
     ReportLength(usize),
+    /// Method, position and the explanation.
+    Explanation(u64, u64, String),
+    /// Method, position and the explanation's length.
+    ExplanationLength(u64, u64, usize),
     Refused(Refusal),
 }
+
+/// Room for every report and every explanation.
+const ROOMY: usize = 4_096;
 
 pub struct Figure {
     pub name: &'static str,
     pub text: Vec<u8>,
     pub expected: Expected,
+}
+
+impl Figure {
+    /// Whether the model and the library give what the rules say.
+    pub fn verdicts(&self, outcome: &Outcome) -> [(&'static str, bool); 2] {
+        let text = &self.text[..];
+        let answers = |method: u64, position: u64| {
+            let given = library::answer(text, method, position);
+            [outcome.answer(method, position), given]
+        };
+        let reports = || {
+            let report = outcome.report(ROOMY).unwrap_or(&[]).to_vec();
+            [report, written(|out| library::report(text, out))]
+        };
+        let explanations = |method: u64, position: u64| {
+            let explained = outcome.explanations().explain(method, position);
+            let explanation = explained.map_or(String::new(), |explained| explained.text());
+            let given = written(|out| library::explain(text, method, position, out));
+            [explanation.into_bytes(), given]
+        };
+        let agree = match &self.expected {
+            Expected::Response(method, position, ticks) => {
+                answers(*method, *position).map(|answer| answer == *ticks)
+            }
+            Expected::NoResponse(method, position) => {
+                answers(*method, *position).map(|answer| answer == 0)
+            }
+            Expected::Report(expected) => reports().map(|report| report == expected.as_bytes()),
+            Expected::ReportLength(expected) => reports().map(|report| report.len() == *expected),
+            Expected::Explanation(method, position, expected) => {
+                explanations(*method, *position).map(|lines| lines == expected.as_bytes())
+            }
+            Expected::ExplanationLength(method, position, expected) => {
+                explanations(*method, *position).map(|lines| lines.len() == *expected)
+            }
+            Expected::Refused(refusal) => {
+                let given = library::report(text, &mut [0; ROOMY]);
+                [outcome.refusal() == Some(*refusal), given == refusal.code()]
+            }
+        };
+        [("model", agree[0]), ("library", agree[1])]
+    }
+}
+
+/// What a call writes where there is room enough.
+fn written(call: impl FnOnce(&mut [u8]) -> u64) -> Vec<u8> {
+    let mut out = [0; ROOMY];
+    let length = call(&mut out) as usize;
+    out.get(..length).unwrap_or(&[]).to_vec()
 }
 
 const A: &str = "K 4 1|T a 1 20 20 0 0 0 f|T b 2 40 40 0 0 3 f|T c 2 60 60 0 0 c f|";
@@ -26,6 +83,13 @@ const P: &str = "K 4 0|T a 2 5 5 0 0 0 0|T b 3 8 8 0 0 0 0|";
 
 const A_REPORT: &str = "R a 20 1 1 1 1 1 1|R b 40 3 7 5 5 5 5|R c 60 5 13 9 11 9 9|\
                         V yes yes yes yes yes yes|";
+
+const A_BY_3: &str = "X c 3 11 60 2 0|I a 1 4 -|I b 1 2 -|";
+const A_BY_4: &str = "X c 4 9 60 2 0|I a 1 2 b|I b 1 2 c|";
+const B_BY_3: &str = "X c 3 9 60 2 0|I a 1 2 -|I b 1 2 -|";
+const M_BY_4: &str = "X c 4 11 60 2 0|I a 1 2 b|I b 1 4 c|";
+const P_NEEDS_7: &str = "X b 0 7 6 3 0|I a 2 0 -|";
+const P_FULL: &str = "X b 4 beyond 8 3 0|";
 
 /// Stands for the text with blanks for tabs and bars for LFs.
 fn text(spelled: &str) -> Vec<u8> {
@@ -50,6 +114,21 @@ pub fn longest_report() -> Vec<u8> {
     text(&spelled)
 }
 
+/// The longest explanation there is, of the last task by method 2 or 4: its C, its B and the
+/// activations have as many digits as numbers that add up to 250,000,000 can have together.
+pub fn longest_explanation() -> Vec<u8> {
+    let all = "f".repeat(64);
+    let mut spelled = "K 256 0|".to_string();
+    for index in 0..31 {
+        let period = if index < 22 { 25 } else { 250 };
+        let task = format!("T longest-na{index:02} 1 {period} {period} 0 0 {all} {all}|");
+        spelled.push_str(&task);
+    }
+    let last = format!("T longest-name 11000000 250000000 250000000 0 10000000 {all} {all}|");
+    spelled.push_str(&last);
+    text(&spelled)
+}
+
 /// Table A with lines added below it up to `length` bytes.
 fn padded(length: usize) -> Vec<u8> {
     let mut padded = text(A);
@@ -61,6 +140,7 @@ fn padded(length: usize) -> Vec<u8> {
 pub fn all() -> Vec<Figure> {
     let mut figures = responses();
     figures.extend(reports());
+    figures.extend(explanations());
     figures.extend(refusals());
     figures
 }
@@ -121,6 +201,35 @@ fn reports() -> Vec<Figure> {
             expected: Expected::ReportLength(2_746),
         },
     ]
+}
+
+fn explanations() -> Vec<Figure> {
+    let p_needs_7 = P.replace("5 5 0", "5 5 1").replace("8 8", "8 6");
+    let p_full = P.replace("a 2 5", "a 5 5");
+    let rows: Vec<(&'static str, &str, u64, u64, &str)> = vec![
+        ("A, c by method 3", A, 3, 2, A_BY_3),
+        ("A, c by method 4", A, 4, 2, A_BY_4),
+        ("A, c by method 5: 4 is smaller", A, 5, 2, A_BY_4),
+        ("B, c by method 5: 3 is smaller", B, 5, 2, B_BY_3),
+        ("M, c by method 5: equal", M, 5, 2, M_BY_4),
+        ("P, b needs 7, has 6", &p_needs_7, 0, 1, P_NEEDS_7),
+        ("P, nothing left for b", &p_full, 5, 1, P_FULL),
+    ];
+    let explained = |(name, table, method, position, explanation)| {
+        let lines = String::from_utf8_lossy(&text(explanation)).into_owned();
+        Figure {
+            name,
+            text: text(table),
+            expected: Expected::Explanation(method, position, lines),
+        }
+    };
+    let mut figures: Vec<Figure> = rows.into_iter().map(explained).collect();
+    figures.push(Figure {
+        name: "the longest explanation",
+        text: longest_explanation(),
+        expected: Expected::ExplanationLength(4, 31, 1_317),
+    });
+    figures
 }
 
 fn refusals() -> Vec<Figure> {

@@ -323,6 +323,29 @@ pub fn near_limit(random: &mut Random) -> Table {
     table
 }
 
+/// Another family's table with a task that needs, reloads aside, about as much as a figure is looked
+/// for, up to two ticks more or less.
+pub fn near_end(random: &mut Random) -> Table {
+    let base = random.pick(&BASES);
+    let mut table = base(random);
+    if random.chance(60) {
+        table.reload_time = 0;
+    }
+    let position = random.below(table.tasks.len());
+    let needed = random.between(TIME_MOST - 2, TIME_MOST + 2);
+    let taken =
+        |task: &Task| (needed + task.jitter + task.period - 1) / task.period * task.execution;
+    let taken: u64 = table.tasks[..position].iter().map(taken).sum();
+    if taken < needed {
+        let own = needed - taken;
+        let least = own.saturating_sub(TIME_MOST).max(1);
+        let task = &mut table.tasks[position];
+        task.execution = random.between(least, own.min(TIME_MOST));
+        task.blocking = own - task.execution;
+    }
+    table
+}
+
 /// The base configuration of the published evaluation, with `tasks` tasks and ticks of a
 /// microsecond divided by `fineness`: periods of 5 to 500 ms, a reload time of 8 microseconds, a
 /// cache utilisation of 10 and a reuse factor of 0.3; deadline-monotonic order.
@@ -417,6 +440,7 @@ mod tests {
                 loaded(&mut random),
                 largest(&mut random),
                 unions(&mut random),
+                near_end(&mut random),
                 edges(&mut random, TIME_MOST),
                 edges(&mut random, 1_000),
                 full(&mut random, 1_000),
@@ -431,12 +455,18 @@ mod tests {
     }
 
     #[test]
-    fn the_model_answers_with_the_longest_deadlines() {
+    fn the_model_answers_and_explains_with_the_longest_deadlines() {
         let mut random = Random::new(5);
         for _ in 0..1_000 {
-            let tables = [edges(&mut random, TIME_MOST), full(&mut random, TIME_MOST)];
+            let tables = [
+                edges(&mut random, TIME_MOST),
+                full(&mut random, TIME_MOST),
+                near_end(&mut random),
+            ];
             for table in tables {
-                model::Outcome::of(&table.text(), None);
+                let outcome = model::Outcome::of(&table.text(), None);
+                let last = table.tasks.len() as u64 - 1;
+                assert!(outcome.explanations().explain(5, last).is_ok());
             }
         }
         for (execution, in_time) in [(60, true), (90, false)] {

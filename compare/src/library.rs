@@ -2,9 +2,9 @@
 //! place.
 
 #[cfg(not(feature = "library"))]
-pub use crate::plain::{answer, print, report};
+pub use crate::plain::{answer, explain, print, report};
 #[cfg(feature = "library")]
-pub use linked::{answer, print, report};
+pub use linked::{answer, explain, print, report};
 
 pub const IS_LINKED: bool = cfg!(feature = "library");
 
@@ -17,6 +17,14 @@ mod linked {
         fn crpd_answer(text: *const u8, text_len: usize, method: u64, position: u64) -> u64;
         fn crpd_report(text: *const u8, text_len: usize, out: *mut u8, out_len: usize) -> u64;
         fn crpd_print(text: *const u8, text_len: usize, out: *mut u8, out_len: usize) -> u64;
+        fn crpd_explain(
+            text: *const u8,
+            text_len: usize,
+            method: u64,
+            position: u64,
+            out: *mut u8,
+            out_len: usize,
+        ) -> u64;
     }
 
     pub fn answer(text: &[u8], method: u64, position: u64) -> u64 {
@@ -32,6 +40,12 @@ mod linked {
     pub fn print(text: &[u8], out: &mut [u8]) -> u64 {
         // SAFETY: each pointer and length are of one slice that lives over the call
         unsafe { crpd_print(text.as_ptr(), text.len(), out.as_mut_ptr(), out.len()) }
+    }
+
+    pub fn explain(text: &[u8], method: u64, position: u64, out: &mut [u8]) -> u64 {
+        let (start, room) = (out.as_mut_ptr(), out.len());
+        // SAFETY: each pointer and length are of one slice that lives over the call
+        unsafe { crpd_explain(text.as_ptr(), text.len(), method, position, start, room) }
     }
 }
 

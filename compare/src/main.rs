@@ -4,7 +4,7 @@
 
 use crpd_compare::checks::{self, Check, Difference};
 use crpd_compare::classes::Classes;
-use crpd_compare::figures::{self, Expected, Figure};
+use crpd_compare::figures;
 use crpd_compare::generate::{self, Table, TIME_MOST};
 use crpd_compare::model::{Error, Outcome};
 use crpd_compare::random::Random;
@@ -13,7 +13,8 @@ use crpd_compare::{damage, library};
 
 crpd_compare::entry!(run);
 
-const USAGE: &str = "usage: compare [--error 1|2|3|4|5|5b|6] [--percent N] [--longest TICKS]";
+const USAGE: &str = "usage: compare [--error 1|2|3|4|5|5b|6|7|8|9|10|11|12|13] [--percent N] \
+                     [--longest TICKS]";
 const SEED: u64 = 0x5eed;
 
 /// Differences of one group that are told; the others are only counted.
@@ -93,8 +94,10 @@ type Draw<'a> = &'a dyn Fn(&mut Random) -> Table;
 
 struct ValidTexts {
     common: Vec<Vec<u8>>,
-    /// At the ends of the ranges, or hard to answer.
+    /// At the ends of the ranges.
     extreme: Vec<Vec<u8>>,
+    /// The longest to write, and the hardest to answer.
+    worst: Vec<Vec<u8>>,
 }
 
 /// One of the counted groups of comparisons.
@@ -120,7 +123,8 @@ impl Comparison {
     fn run(&mut self) {
         if self.options.error.is_some() {
             // a wrong model has to be told by the made-up tables alone
-            self.valid_texts();
+            let valid = self.valid_texts();
+            self.explanations(&valid, &[]);
             return;
         }
         self.figures();
@@ -130,6 +134,8 @@ impl Comparison {
         let refused = [spoiled, altered].concat();
         self.answers(&valid, &refused);
         self.rooms(&valid, &refused);
+        self.explanations(&valid, &refused);
+        self.explanation_rooms(&valid, &refused);
         if self.options.percent == 100 {
             self.class_counts();
         }
@@ -140,7 +146,7 @@ impl Comparison {
         for figure in figures::all() {
             group.texts += 1;
             let outcome = Outcome::of(&figure.text, self.options.error);
-            for (who, agrees) in verdicts(&figure, &outcome) {
+            for (who, agrees) in figure.verdicts(&outcome) {
                 group.compared += 1;
                 if !agrees {
                     group.differences += 1;
@@ -158,23 +164,28 @@ impl Comparison {
             (2_000, &generate::loaded),
             (1_600, &generate::unions),
             (1_800, &generate::near_limit),
+            (600, &generate::near_end),
         ]);
-        let mut extreme = self.drawn(&[
+        let extreme = self.drawn(&[
             (1_000, &|random| generate::edges(random, longest)),
             (200, &|random| generate::full(random, longest)),
             (30, &generate::largest),
         ]);
-        extreme.push(figures::longest_report());
+        let mut worst = vec![figures::longest_report(), figures::longest_explanation()];
         if self.options.error.is_none() {
-            extreme.extend(hard_texts(longest));
+            worst.extend(hard_texts(longest));
         }
         let mut group = Group::new("valid texts");
-        for text in common.iter().chain(&extreme) {
+        for text in common.iter().chain(&extreme).chain(&worst) {
             let outcome = self.compare(&mut group, checks::whole, text);
             self.reach_valid(text, &outcome);
         }
         self.close(group);
-        ValidTexts { common, extreme }
+        ValidTexts {
+            common,
+            extreme,
+            worst,
+        }
     }
 
     fn drawn(&mut self, families: &[(u64, Draw)]) -> Vec<Vec<u8>> {
@@ -243,7 +254,7 @@ impl Comparison {
     fn answers(&mut self, valid: &ValidTexts, refused: &[Vec<u8>]) {
         let mut group = Group::new("single answers");
         let texts = spread(&valid.common, 1_800).chain(spread(&valid.extreme, 200));
-        for text in texts.chain(spread(refused, 600)) {
+        for text in texts.chain(&valid.worst).chain(spread(refused, 600)) {
             let outcome = self.compare(&mut group, checks::answers, text);
             self.reach_answers(&outcome);
         }
@@ -280,6 +291,27 @@ impl Comparison {
         let mut group = Group::new("prints into buffers of every length");
         for text in &texts {
             self.compare(&mut group, checks::print_rooms, text);
+        }
+        self.close(group);
+    }
+
+    fn explanations(&mut self, valid: &ValidTexts, refused: &[Vec<u8>]) {
+        let mut group = Group::new("explanations");
+        let texts = spread(&valid.common, 3_000).chain(spread(&valid.extreme, 400));
+        for text in texts.chain(&valid.worst).chain(spread(refused, 800)) {
+            let outcome = self.compare(&mut group, checks::explanations, text);
+            self.classes.reach_explained(&outcome);
+        }
+        self.close(group);
+    }
+
+    fn explanation_rooms(&mut self, valid: &ValidTexts, refused: &[Vec<u8>]) {
+        let mut group = Group::new("explanations into buffers of every length");
+        let longest = figures::longest_explanation();
+        let texts = spread(&valid.common, 400).chain([&longest]);
+        for text in texts.chain(spread(refused, 100)) {
+            let outcome = self.compare(&mut group, checks::explanation_rooms, text);
+            self.classes.reach_explained_in_rooms(&outcome);
         }
         self.close(group);
     }
@@ -348,37 +380,6 @@ impl Comparison {
             }
         );
     }
-}
-
-/// Whether the model and the library give what the rules say.
-fn verdicts(figure: &Figure, outcome: &Outcome) -> [(&'static str, bool); 2] {
-    let mut room = vec![0; 4_096];
-    let mut report = || {
-        let length = library::report(&figure.text, &mut room);
-        room.get(..length as usize).unwrap_or(&[]).to_vec()
-    };
-    let answered = |method: u64, position: u64, ticks: u64| {
-        let given = library::answer(&figure.text, method, position);
-        [outcome.answer(method, position) == ticks, given == ticks]
-    };
-    let agree = match &figure.expected {
-        Expected::Response(method, position, ticks) => answered(*method, *position, *ticks),
-        Expected::NoResponse(method, position) => answered(*method, *position, 0),
-        Expected::Report(expected) => {
-            let expected = expected.as_bytes();
-            [outcome.report(4_096) == Ok(expected), report() == expected]
-        }
-        Expected::ReportLength(expected) => {
-            let length = outcome.report(4_096).map(<[u8]>::len);
-            [length == Ok(*expected), report().len() == *expected]
-        }
-        Expected::Refused(refusal) => {
-            let given = library::report(&figure.text, &mut room);
-            let code = refusal.code();
-            [outcome.refusal() == Some(*refusal), given == code]
-        }
-    };
-    [("model", agree[0]), ("library", agree[1])]
 }
 
 /// Tables on which a search from C + B upwards takes longest.

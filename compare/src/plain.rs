@@ -1,6 +1,10 @@
 //! A good plain version, written for speed: what the proved code is timed against, and what stands
 //! in for it where it is not linked.
 
+mod explain;
+
+pub use explain::{explain, explain_within};
+
 use std::io::Write;
 
 const TEXT_MOST: usize = 16_384;
@@ -31,6 +35,15 @@ struct Task {
 impl Task {
     fn name(&self) -> &[u8] {
         &self.name[..self.name_len]
+    }
+
+    /// C + B.
+    fn own(&self) -> u64 {
+        self.execution + self.blocking
+    }
+
+    fn activations(&self, response: u64) -> u64 {
+        (response + self.jitter + self.period - 1) / self.period
     }
 }
 
@@ -310,14 +323,25 @@ fn respond(table: &Table, i: usize, method: usize, start: u64, turns: &mut Turns
         let reloads = u64::from(reload_count(table, method, i, j));
         *each = above.execution + table.reload_time * reloads;
     }
-    let own = task.execution + task.blocking;
     let limit = task.deadline - task.jitter;
-    let mut response = own.max(start);
+    search(table, i, &each, task.own().max(start), limit, turns)
+}
+
+/// The least number up to `limit` that equals its demand, 0 for none. `start` is not above it.
+fn search(
+    table: &Table,
+    i: usize,
+    each: &[u64; TASKS_MOST],
+    start: u64,
+    limit: u64,
+    turns: &mut Turns,
+) -> u64 {
+    let own = table.tasks[i].own();
+    let mut response = start;
     while response <= limit && turns.take() {
         let mut demand = own;
-        for (above, each) in table.tasks[..i].iter().zip(&each) {
-            let activations = (response + above.jitter + above.period - 1) / above.period;
-            demand += activations * each;
+        for (above, each) in table.tasks[..i].iter().zip(each) {
+            demand += above.activations(response) * each;
         }
         if demand == response {
             return response;

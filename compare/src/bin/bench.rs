@@ -20,7 +20,7 @@ const PLAIN_TURNS: u64 = 5_000_000;
 /// The fastest of so many rounds counts.
 const ROUNDS: u32 = 40;
 
-/// Room for every report.
+/// Room for every report and every explanation.
 const ROOM: [u8; 2_746] = [0; 2_746];
 
 /// What the library would take longer for is left out.
@@ -111,6 +111,7 @@ type Work<'a> = &'a mut dyn FnMut(&[u8]) -> u64;
 fn time_tables(title: &str, texts: &[Vec<u8>], options: &Options) {
     println!("{title} ({} tables)", texts.len());
     texts.iter().for_each(|text| see_same(text));
+    let last = tasks_of(&texts[0]) - 1;
     let (mut out, mut plain_out) = (ROOM, ROOM);
     time_both(
         "reports",
@@ -132,7 +133,20 @@ fn time_tables(title: &str, texts: &[Vec<u8>], options: &Options) {
             plain::answer(text, method, position)
         },
     );
+    for (what, method) in [("explained by 4", 4), ("explained by 5", 5)] {
+        time_both(
+            what,
+            texts,
+            options,
+            &mut |text| library::explain(text, method, last, &mut out),
+            &mut |text| plain::explain(text, method, last, &mut plain_out),
+        );
+    }
     time_parts(texts, options);
+}
+
+fn tasks_of(text: &[u8]) -> u64 {
+    model::read(text).expect("a valid table").tasks.len() as u64
 }
 
 fn see_same(text: &[u8]) {
@@ -143,6 +157,15 @@ fn see_same(text: &[u8]) {
     );
     let same = codes.0 == codes.1 && out == plain_out;
     assert!(same, "the reports differ: {}", text.escape_ascii());
+    let last = tasks_of(text) - 1;
+    for method in 0..model::METHODS {
+        let codes = (
+            library::explain(text, method, last, &mut out),
+            plain::explain(text, method, last, &mut plain_out),
+        );
+        let same = codes.0 == codes.1 && out == plain_out;
+        assert!(same, "the explanations differ: {}", text.escape_ascii());
+    }
 }
 
 /// A method and a position that differ from text to text.
@@ -243,7 +266,7 @@ fn plain_stages() -> Stages {
 
 // ---- bad tables
 
-/// One report for growing deadlines.
+/// One report for growing deadlines, and the explanations of every task by every method.
 fn time_bad_table(title: &str, table: &dyn Fn(u64) -> Table) {
     println!("{title}");
     let mut last: Option<(u64, Duration)> = None;
@@ -263,23 +286,61 @@ fn time_bad_table(title: &str, table: &dyn Fn(u64) -> Table) {
         };
         let mut turns = Turns::at_most(PLAIN_TURNS);
         let (time, _) = timed(|out| plain::report_within(&text, out, &mut turns));
-        let plain_taken = if turns.used_up() {
-            format!("given up after {PLAIN_TURNS} turns, {}", in_words(time))
-        } else {
-            in_words(time)
-        };
         println!(
-            "  deadline {longest:>9}: {taken} {}, {plain_taken} plain",
-            library::NAME
+            "  deadline {longest:>9}: {taken} {}, {} plain",
+            library::NAME,
+            plain_in_words(time, &turns)
         );
+        time_explanations(&text);
     }
 }
 
-fn timed(mut report: impl FnMut(&mut [u8]) -> u64) -> (Duration, u64) {
+fn time_explanations(text: &[u8]) {
+    let (mut all, mut slowest) = (Duration::ZERO, Duration::ZERO);
+    let (mut plain_all, mut turns) = (Duration::ZERO, Turns::at_most(PLAIN_TURNS));
+    let mut left_out = 0;
+    for position in 0..tasks_of(text) {
+        for method in 0..model::METHODS {
+            if all < LONGEST {
+                let explain = |out: &mut [u8]| library::explain(text, method, position, out);
+                let (time, code) = timed(explain);
+                assert!(code >> 32 == 0);
+                all += time;
+                slowest = slowest.max(time);
+            } else {
+                left_out += 1;
+            }
+            let explain =
+                |out: &mut [u8]| plain::explain_within(text, method, position, out, &mut turns);
+            plain_all += timed(explain).0;
+        }
+    }
+    let left_out = match left_out {
+        0 => String::new(),
+        count => format!(", {count} left out"),
+    };
+    println!(
+        "    all explained: {} (slowest {}{left_out}) {}, {} plain",
+        in_words(all),
+        in_words(slowest),
+        library::NAME,
+        plain_in_words(plain_all, &turns)
+    );
+}
+
+fn timed(work: impl FnOnce(&mut [u8]) -> u64) -> (Duration, u64) {
     let mut out = ROOM;
     let start = processor_time();
-    let code = report(&mut out);
+    let code = work(&mut out);
     (processor_time() - start, code)
+}
+
+fn plain_in_words(time: Duration, turns: &Turns) -> String {
+    if turns.used_up() {
+        format!("given up after {PLAIN_TURNS} turns, {}", in_words(time))
+    } else {
+        in_words(time)
+    }
 }
 
 fn in_words(time: Duration) -> String {

@@ -44,10 +44,40 @@ impl<'a> Reloads<'a> {
         match method {
             0 => 0,
             1 => self.tasks[j].evicting.len(),
-            2 => self.largest(i, j, |k| self.tasks[k].useful.len()),
             3 => self.useful_to_any(self.affected(i, j), j),
-            4 => self.largest(i, j, |k| self.evicted_down_to[k][j]),
-            _ => unreachable!("no equation of its own"),
+            _ => {
+                let largest = self.values(method, i, j).max();
+                largest.unwrap_or(0)
+            }
+        }
+    }
+
+    /// Whom an activation of `j` hits while `i` is pending, by one of the methods 0 to 4: the first
+    /// of the affected tasks that have the largest value. None by a method without such values.
+    pub fn victim(&self, method: u64, i: usize, j: usize) -> Option<usize> {
+        if !tells_values(method) {
+            return None;
+        }
+        let most = self.count(method, i, j);
+        let has_most = |k: &usize| self.value(method, *k, j) == most;
+        let mut affected = self.affected(i, j);
+        match self.error {
+            Some(Error::HitsLastOfEquals) => affected.rfind(has_most),
+            _ => affected.find(has_most),
+        }
+    }
+
+    /// By method 2 or 4, what each of the affected tasks has to reload after an activation of `j`.
+    pub fn values(&self, method: u64, i: usize, j: usize) -> impl Iterator<Item = usize> + '_ {
+        let value = move |k| self.value(method, k, j);
+        self.affected(i, j).map(value)
+    }
+
+    fn value(&self, method: u64, k: usize, j: usize) -> usize {
+        match method {
+            2 => self.tasks[k].useful.len(),
+            4 => self.evicted_down_to[k][j],
+            _ => unreachable!("no value of a single task"),
         }
     }
 
@@ -59,15 +89,16 @@ impl<'a> Reloads<'a> {
         }
     }
 
-    fn largest(&self, i: usize, j: usize, size: impl Fn(usize) -> usize) -> usize {
-        self.affected(i, j).map(size).max().unwrap_or(0)
-    }
-
     /// How many of the sets that `j` evicts are useful to one of the tasks in `range`.
     fn useful_to_any(&self, range: Range<usize>, j: usize) -> usize {
         let hurts = |set: &&usize| self.useful_to[**set].iter().any(|k| range.contains(k));
         self.tasks[j].evicting.iter().filter(hurts).count()
     }
+}
+
+/// Whether the count of a method is the largest of values that the affected tasks have each.
+pub fn tells_values(method: u64) -> bool {
+    matches!(method, 2 | 4)
 }
 
 fn users(table: &Table, sets_of: fn(&Task) -> &Vec<usize>) -> Vec<Vec<usize>> {
@@ -112,6 +143,24 @@ mod tests {
                     };
                     let largest = tasks[j + 1..=i].iter().map(met_by).max();
                     assert_eq!(Some(reloads.count(4, i, j)), largest);
+                }
+            }
+        }
+    }
+
+    #[test]
+    fn no_task_is_hit_harder_than_the_victim_and_none_above_it_as_hard() {
+        let mut random = Random::new(2);
+        for _ in 0..50 {
+            let table = read(&unions(&mut random).text()).expect("a valid table");
+            let reloads = Reloads::new(&table, None);
+            for i in 0..table.tasks.len() {
+                for (j, method) in (0..i).flat_map(|j| [(j, 2), (j, 4)]) {
+                    let victim = reloads.victim(method, i, j).expect("a victim");
+                    let most = reloads.value(method, victim, j);
+                    let value = |k| reloads.value(method, k, j);
+                    assert!((j + 1..victim).all(|k| value(k) < most));
+                    assert!((victim..=i).all(|k| value(k) <= most));
                 }
             }
         }

@@ -5,13 +5,17 @@
 //! response is found by trying every number where the limit is small.
 
 mod costs;
+mod explain;
 mod read;
 mod report;
 mod response;
 
 pub use costs::METHODS;
+pub use explain::{Explanation, Interference, FIGURE_MOST};
 pub use read::{read, Table, Task, TASKS_MOST, TEXT_MOST};
 pub use report::{analyse, Analysis, Row};
+
+use explain::Explainer;
 
 /// Why something was not given: the refusal's number and the line told.
 #[derive(Clone, Copy, Debug, PartialEq, Eq, PartialOrd, Ord)]
@@ -49,6 +53,21 @@ pub enum Error {
     PutsInPreempting,
     /// 6: the response is held against D, not D - J.
     ForgetsOwnJitter,
+    /// 7: the combined method is explained by the dearer union.
+    ExplainsDearer,
+    /// 8: the combined method is explained by method 3 where both unions are equal.
+    ExplainsThreeIfEqual,
+    /// 9: an explanation, but not its figure, has one activation too many where R + J is a multiple
+    /// of T.
+    ListsOneMore,
+    /// 10: an explanation has the reload counts of the task above where that has one.
+    ListsRowAbove,
+    /// 11: the search for a figure ends at the task's limit.
+    EndsAtLimit,
+    /// 12: the victim is the last of those with the largest value.
+    HitsLastOfEquals,
+    /// 13: the tasks above are listed though the figure is beyond the search's end.
+    ListsAfterBeyond,
 }
 
 impl Error {
@@ -61,6 +80,13 @@ impl Error {
             "5" => Some(Error::LeavesOutLowest),
             "5b" => Some(Error::PutsInPreempting),
             "6" => Some(Error::ForgetsOwnJitter),
+            "7" => Some(Error::ExplainsDearer),
+            "8" => Some(Error::ExplainsThreeIfEqual),
+            "9" => Some(Error::ListsOneMore),
+            "10" => Some(Error::ListsRowAbove),
+            "11" => Some(Error::EndsAtLimit),
+            "12" => Some(Error::HitsLastOfEquals),
+            "13" => Some(Error::ListsAfterBeyond),
             _ => None,
         }
     }
@@ -70,6 +96,7 @@ impl Error {
 pub struct Outcome {
     accepted: Result<(Table, Analysis), Refusal>,
     printed: Vec<u8>,
+    error: Option<Error>,
 }
 
 impl Outcome {
@@ -85,6 +112,7 @@ impl Outcome {
         Outcome {
             accepted,
             printed: printed.into_bytes(),
+            error,
         }
     }
 
@@ -128,11 +156,41 @@ impl Outcome {
 
     /// What the program prints if it fits into `room` bytes.
     pub fn print(&self, room: usize) -> Result<&[u8], Refusal> {
-        if self.printed.len() <= room {
-            Ok(&self.printed)
-        } else {
-            Err(Refusal::new(14, 0))
+        fitting(&self.printed, room)
+    }
+
+    pub fn explanations(&self) -> Explanations<'_> {
+        let accepted = self.accepted.as_ref().map_err(|refusal| *refusal);
+        Explanations {
+            accepted: accepted.map(|(table, _)| Explainer::new(table, self.error)),
         }
+    }
+}
+
+/// The explanations of one text, each worked out when it is asked for.
+pub struct Explanations<'a> {
+    accepted: Result<Explainer<'a>, Refusal>,
+}
+
+impl Explanations<'_> {
+    pub fn explain(&self, method: u64, position: u64) -> Result<Explanation, Refusal> {
+        if method >= METHODS {
+            return Err(Refusal::new(12, 0));
+        }
+        let explainer = self.accepted.as_ref().map_err(|refusal| *refusal)?;
+        match (0..explainer.tasks()).find(|i| *i as u64 == position) {
+            Some(i) => Ok(explainer.explain(method, i)),
+            None => Err(Refusal::new(13, 0)),
+        }
+    }
+}
+
+/// A text if it fits into `room` bytes.
+pub fn fitting(text: &[u8], room: usize) -> Result<&[u8], Refusal> {
+    if text.len() <= room {
+        Ok(text)
+    } else {
+        Err(Refusal::new(14, 0))
     }
 }
 
@@ -157,5 +215,14 @@ mod tests {
         assert_eq!(outcome.answer(6, 9), 12 << 32);
         assert_eq!(outcome.answer(5, 9), 2 << 32);
         assert_eq!(Outcome::of(&table_p(), None).answer(5, 2), 13 << 32);
+        let refused = |text: &[u8], method, position| {
+            let outcome = Outcome::of(text, None);
+            let explained = outcome.explanations().explain(method, position);
+            explained.err().map(|refusal| refusal.number)
+        };
+        assert_eq!(refused(b"", 6, 9), Some(12));
+        assert_eq!(refused(b"", 5, 9), Some(2));
+        assert_eq!(refused(&table_p(), 5, 2), Some(13));
+        assert_eq!(refused(&table_p(), 5, 1), None);
     }
 }

@@ -50,7 +50,7 @@ fn row(table: &Table, reloads: &Reloads, i: usize, error: Option<Error>) -> Row 
     }
 }
 
-fn equation(
+pub fn equation(
     table: &Table,
     i: usize,
     count: &dyn Fn(usize) -> usize,

@@ -11,8 +11,9 @@ const TURNS_FIRST: u64 = 300;
 /// A search longer than this is a fault of whoever made the table up.
 const TURNS_MOST: u64 = 20_000_000;
 
-/// No round is longer.
-const ROUND_MOST: u64 = 1 << 40;
+/// The stretch of ticks over which the tasks' shares of the processor are worked out: so long that
+/// what the rounding loses of them does not count.
+const STRETCH: u128 = 1_000_000_000_000_000_000;
 
 /// What a higher task takes: `each` ticks at every activation.
 #[derive(Clone, Debug)]
@@ -37,8 +38,8 @@ impl Equation {
             Some(Error::JudgesAtLimit) if self.demand(limit) > limit => None,
             _ if limit <= TRIED_MOST => self.by_trial(limit),
             _ => {
-                let soon = self.climb(limit, TURNS_FIRST);
-                soon.unwrap_or_else(|| self.settled(limit).by_rounds(limit))
+                let soon = self.climb(self.own, limit, TURNS_FIRST);
+                soon.unwrap_or_else(|| self.settled(limit).by_shares(limit))
             }
         }
     }
@@ -68,7 +69,7 @@ impl Equation {
         })
     }
 
-    fn activations(&self, load: &Load, response: u64) -> u64 {
+    pub fn activations(&self, load: &Load, response: u64) -> u64 {
         let reach = response + load.jitter;
         let whole = reach / load.period;
         let exact = reach % load.period == 0;
@@ -83,54 +84,29 @@ impl Equation {
         (0..=limit).find(|response| self.demand(*response) == *response)
     }
 
-    /// Leaves out whole rounds and searches what remains.
+    /// Leaves out what lies below every answer and searches the rest.
     ///
-    /// A round is a common multiple L of the periods: L ticks later the demand is greater by the
-    /// same number, so that L - that number = `left` ticks are left over in each round. At a
-    /// number t the demand is at least own + t * (L - left) / L. Hence nothing answers where
-    /// `left` is not positive, and otherwise nothing answers below q rounds if own > q * left; from
-    /// there on the equation is the one with own - q * left, moved by q rounds.
-    fn by_rounds(&self, limit: u64) -> Option<u64> {
-        let round = self.round();
-        let within = |load: &&Load| round % load.period == 0;
-        let taken = |load: &Load| u128::from(load.each) * u128::from(round / load.period);
-        let taken: u128 = self.loads.iter().filter(within).map(taken).sum();
-        if taken >= u128::from(round) {
+    /// The tasks above take at least `taken` of every L ticks; jitter and a period only begun can
+    /// but add to it. So at a number t the demand is at least own + t * taken / L. Hence nothing
+    /// answers where `taken` is at least L, and otherwise nothing below own * L / (L - taken).
+    fn by_shares(&self, limit: u64) -> Option<u64> {
+        let share = |load: &Load| u128::from(load.each) * STRETCH / u128::from(load.period);
+        let taken: u128 = self.loads.iter().map(share).sum();
+        if taken >= STRETCH {
             return None;
         }
-        if !self.loads.iter().all(|load| within(&load)) {
-            return self.climb(limit, TURNS_MOST).expect("a short search");
-        }
-        let left = round - taken as u64;
-        let rounds = (self.own - 1) / left;
-        let skipped = u128::from(rounds) * u128::from(round);
-        if skipped > u128::from(limit) {
+        let start = u128::from(self.own) * STRETCH / (STRETCH - taken);
+        if start > u128::from(limit) {
             return None;
         }
-        let skipped = skipped as u64;
-        let rest = Equation {
-            own: self.own - rounds * left,
-            ..self.clone()
-        };
-        let found = rest.climb(limit - skipped, TURNS_MOST);
-        found.expect("a short search").map(|found| found + skipped)
+        let found = self.climb(start as u64, limit, TURNS_MOST);
+        found.expect("a short search")
     }
 
-    /// A common multiple of the periods, from the shortest on as far as it does not get too long.
-    fn round(&self) -> u64 {
-        let mut periods: Vec<u64> = self.loads.iter().map(|load| load.period).collect();
-        periods.sort_unstable();
-        periods.iter().fold(1, |round, period| {
-            let longer = (round / divisor(round, *period)).checked_mul(*period);
-            longer
-                .filter(|longer| *longer <= ROUND_MOST)
-                .unwrap_or(round)
-        })
-    }
-
-    /// The search from C + B upwards: its result, or nothing if that takes too many turns.
-    fn climb(&self, limit: u64, turns: u64) -> Option<Option<u64>> {
-        let mut response = self.own;
+    /// The search upwards from a number that no answer is below: its result, or nothing if that
+    /// takes too many turns.
+    fn climb(&self, start: u64, limit: u64, turns: u64) -> Option<Option<u64>> {
+        let mut response = start;
         for _ in 0..turns {
             if response > limit {
                 return Some(None);
@@ -158,23 +134,13 @@ impl Equation {
     }
 }
 
-fn divisor(a: u64, b: u64) -> u64 {
-    let (mut larger, mut smaller) = (a, b);
-    while smaller != 0 {
-        let rest = larger % smaller;
-        larger = smaller;
-        smaller = rest;
-    }
-    larger
-}
-
 #[cfg(test)]
 mod tests {
     use super::*;
     use crate::random::Random;
 
     #[test]
-    fn leaving_out_rounds_climbing_and_trying_give_the_same() {
+    fn starting_from_the_shares_climbing_and_trying_give_the_same() {
         let mut random = Random::new(7);
         let mut found = [0, 0];
         for _ in 0..20_000 {
@@ -191,14 +157,31 @@ mod tests {
             };
             let limit = random.between(0, 2_000);
             let response = equation.by_trial(limit);
-            assert_eq!(equation.by_rounds(limit), response, "{equation:?}");
+            assert_eq!(equation.by_shares(limit), response, "{equation:?}");
             let settled = equation.settled(limit);
-            assert_eq!(settled.by_rounds(limit), response, "{equation:?}");
-            let climbed = equation.climb(limit, TURNS_MOST);
+            assert_eq!(settled.by_shares(limit), response, "{equation:?}");
+            let climbed = equation.climb(equation.own, limit, TURNS_MOST);
             assert_eq!(climbed, Some(response), "{equation:?}");
             found[usize::from(response.is_some())] += 1;
         }
         assert!(found[0] > 1_000 && found[1] > 1_000);
+    }
+
+    #[test]
+    fn a_full_processor_answers_nothing() {
+        for periods in [&[1][..], &[3, 3, 3], &[2, 3, 6], &[7; 7], &[31; 31]] {
+            let load = |period: &u64| Load {
+                each: 1,
+                period: *period,
+                jitter: 0,
+            };
+            let equation = Equation {
+                own: 1,
+                loads: periods.iter().map(load).collect(),
+                error: None,
+            };
+            assert_eq!(equation.least_response(250_000_000), None);
+        }
     }
 
     #[test]
