@@ -12,6 +12,9 @@
 /* No report is longer. */
 #define CRPD_REPORT_MOST 2746
 
+/* No explanation is longer. */
+#define CRPD_EXPLANATION_MOST 1317
+
 /* The response, in ticks, of the task at a position (from 0) under a method (0 to 5), or 0 where the
  * task is unschedulable. */
 uint64_t crpd_answer(const uint8_t *text, size_t text_len, uint64_t method, uint64_t position);
@@ -20,7 +23,13 @@ uint64_t crpd_answer(const uint8_t *text, size_t text_len, uint64_t method, uint
  * out where the report is refused, stays as it was. */
 uint64_t crpd_report(const uint8_t *text, size_t text_len, uint8_t *out, size_t out_len);
 
-/* The same for what the program crpd-report prints: the report, or the line of the text's refusal. Its
+/* The length of the explanation of what crpd_answer gives for the same method and position, which then
+ * stands at the start of out: a line `X` with what the task needs, whatever its limit is, and a line `I`
+ * for each task above it with what that adds. What follows it in out, and all of out where it is refused,
+ * stays as it was. */
+uint64_t crpd_explain(const uint8_t *text, size_t text_len, uint64_t method, uint64_t position, uint8_t *out, size_t out_len);
+
+/* As crpd_report, for what the program crpd-report prints: the report, or the line of the text's refusal. Its
  * only refusal is 14, where out is too short. */
 uint64_t crpd_print(const uint8_t *text, size_t text_len, uint8_t *out, size_t out_len);
 

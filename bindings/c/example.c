@@ -1,5 +1,5 @@
-/* Prints the response of every task of a table under every method, and then the report. The table is
- * read from standard input. */
+/* Prints the response of every task of a table under every method, then the report, and then why combined
+ * (method 5) answers for the last task what it does. The table is read from standard input. */
 #include <stdio.h>
 
 #include "crpd.h"
@@ -12,7 +12,8 @@ static int refused(uint64_t answer) {
 int main(void) {
     static uint8_t text[16385], out[CRPD_REPORT_MOST];
     size_t len = fread(text, 1, sizeof text, stdin);
-    for (uint64_t position = 0;; position++) {
+    uint64_t position = 0;
+    for (;; position++) {
         uint64_t answer = crpd_answer(text, len, 0, position);
         if (crpd_is_refusal(answer) && crpd_refusal_number(answer) == 13)
             break;
@@ -29,6 +30,10 @@ int main(void) {
         printf("\n");
     }
     uint64_t written = crpd_report(text, len, out, sizeof out);
+    if (crpd_is_refusal(written))
+        return refused(written);
+    fwrite(out, 1, (size_t)written, stdout);
+    written = crpd_explain(text, len, 5, position - 1, out, sizeof out);
     if (crpd_is_refusal(written))
         return refused(written);
     fwrite(out, 1, (size_t)written, stdout);

@@ -1,5 +1,5 @@
-//! Prints the response of every task of a table under every method, and then the report. The table is
-//! read from standard input.
+//! Prints the response of every task of a table under every method, then the report, and then why
+//! combined (method 5) answers for the last task what it does. The table is read from standard input.
 use std::io::{Read, Write};
 
 fn main() -> std::io::Result<()> {
@@ -28,5 +28,9 @@ fn main() -> std::io::Result<()> {
     let length =
         crpd::report(&text, &mut out).expect("an accepted table has a report, and it fits");
     assert_eq!(crpd::print(&text), out[..length]);
+    std::io::stdout().write_all(&out[..length])?;
+    let length = crpd::explain(&text, 5, position - 1, &mut out)
+        .expect("an accepted table has a last task, and its explanation fits");
+    assert!(length <= crpd::EXPLANATION_MOST);
     std::io::stdout().write_all(&out[..length])
 }

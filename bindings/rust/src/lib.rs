@@ -4,10 +4,21 @@
 /// No report is longer.
 pub const REPORT_MOST: usize = 2746;
 
+/// No explanation is longer.
+pub const EXPLANATION_MOST: usize = 1317;
+
 #[link(name = "crpd", kind = "static")]
 extern "C" {
     fn crpd_answer(text: *const u8, text_len: usize, method: u64, position: u64) -> u64;
     fn crpd_report(text: *const u8, text_len: usize, out: *mut u8, out_len: usize) -> u64;
+    fn crpd_explain(
+        text: *const u8,
+        text_len: usize,
+        method: u64,
+        position: u64,
+        out: *mut u8,
+        out_len: usize,
+    ) -> u64;
     fn crpd_print(text: *const u8, text_len: usize, out: *mut u8, out_len: usize) -> u64;
 }
 
@@ -38,6 +49,15 @@ pub fn answer(text: &[u8], method: u64, position: u64) -> Result<Option<u32>, Re
 /// Writes the report at the start of `out` and gives its length. A refused report leaves `out` as it was.
 pub fn report(text: &[u8], out: &mut [u8]) -> Result<usize, Refusal> {
     let written = unsafe { crpd_report(text.as_ptr(), text.len(), out.as_mut_ptr(), out.len()) };
+    told(written).map(|length| length as usize)
+}
+
+/// Writes the explanation of what `answer` gives for the same method and position at the start of `out`
+/// and gives its length: a line `X` with what the task needs, whatever its limit is, and a line `I` for
+/// each task above it with what that adds. A refused explanation leaves `out` as it was.
+pub fn explain(text: &[u8], method: u64, position: u64, out: &mut [u8]) -> Result<usize, Refusal> {
+    let (start, room) = (out.as_mut_ptr(), out.len());
+    let written = unsafe { crpd_explain(text.as_ptr(), text.len(), method, position, start, room) };
     told(written).map(|length| length as usize)
 }
 
