@@ -42,9 +42,11 @@ pub record TextCoded (ruled : Ruling) (text before : List ℕ) (code : ℕ) (aft
   pub answer-is : code ≡ writtenCode (ruledAnswer ruled text before)
   pub buffer-is : after ≡ ruledBuffer ruled text before
 
+-- that of the report
 abbrev pub ReportCoded : List ℕ → List ℕ → ℕ → List ℕ → Type 0
 ReportCoded text = TextCoded (readText text .ruling) (reportIn (readText text .table))
 
+-- that of an explanation
 abbrev pub ExplanationCoded : List ℕ → ℕ → ℕ → List ℕ → ℕ → List ℕ → Type 0
 ExplanationCoded text m i = TextCoded (askedOf text m i) (explanationOf (readText text .table) m i)
 

@@ -61,26 +61,29 @@ pub record TextWritten (ruled : Ruling) (most : ℕ) (text before : List ℕ) (a
   pub buffer-is : after ≡ ruledBuffer ruled text before
   pub short : ruled ≡ ruling.Accepted → length text ≤ most
 
--- ---- the report: the text's refusals, and then 14
+-- ---- the report
 
 -- the report of an accepted table
 abbrev pub reportIn : Table → List ℕ
 reportIn table = reportOf table (responseOf table)
 
+-- the text's refusals, and then 14; never longer than 2,746 bytes
 abbrev pub TextReported : List ℕ → List ℕ → Written → List ℕ → Type 0
 TextReported text = TextWritten (readText text .ruling) 2746 (reportIn (readText text .table))
 
--- ---- an explanation: 12 where there is no such method, then the text's refusals, then 13 where there is no task at the position, and then 14
+-- ---- an explanation
 
+-- 12 where there is no such method, then the refusal of the text that was read, then 13 where there is no task at the position
 abbrev pub askedRuling : ℕ → ℕ → Ruling → ℕ → Ruling
 askedRuling m i read count =
     cond (ltb 5 m) (ruling.Refused (refusal 12))
     (unlessRefused ruling.Refused read (cond (leb count i) (ruling.Refused (refusal 13)) ruling.Accepted))
 
--- the ruling on a text of which the task at i is asked for under method m
+-- the ruling on a text, of which the task at i is asked for under method m
 unfoldable pub askedOf : List ℕ → ℕ → ℕ → Ruling
 askedOf text m i = askedRuling m i (readText text .ruling) (readText text .table .count)
 
+-- these refusals, and then 14; never longer than 1,317 bytes
 abbrev pub TextExplained : List ℕ → ℕ → ℕ → List ℕ → Written → List ℕ → Type 0
 TextExplained text m i = TextWritten (askedOf text m i) 1317 (explanationOf (readText text .table) m i)
 

@@ -1,5 +1,5 @@
-// The public operations on a table text: one answer, the report, what the program prints, and the explanation of an answer. They take every text, number and buffer, and
-// ask nothing of their caller.
+// The public operations on a table text: one answer, its explanation, the report, and what the program prints. They take every text, number
+// and buffer, and ask nothing of their caller.
 pub mod exported;
 
 use delivery::Written;
@@ -31,7 +31,7 @@ fn reply_of(response: Response) -> Reply
     }
 }
 
-// The ruling where a task is asked for under a method: of the text, as it was read with so many tasks, and of the method and the position.
+// The ruling where the task at a position is asked for under a method, of a text that was read and has so many tasks.
 fn asked(method: u64, position: u64, read: Ruling, count: usize) -> Ruling
     ensures { λ r. ⌜ r ≡ askedRuling method position read count ⌝ }
 {
