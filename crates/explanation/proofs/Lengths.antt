@@ -149,7 +149,7 @@ module _ (table : Table) (accepted : AcceptedTable table) (i : ℕ) (held : i < 
       go (Within R) e =
           let own = at table i .work .0 + at table i .blocking .0 in
           let soon : R .0 ≤ 250000000 = rw e at (ranged .time) in
-          let sum = explanation-adds-up table i m R e in
+          let sum = explanation-adds-up table i m h R e in
           omega (
             arith,
             length-append (needLine (at table i) need) (lines (need .method) (R .0) soon i),

@@ -1,11 +1,9 @@
 -- What an explanation says is true of the equation: its lines add up to the need, and the victim has the reloads that are charged. What a need says of
 -- the response stands in `need`. Assumes nothing.
-use Prim.Native.Nat.{ℕ, zero, suc, _+_, _*_, _<_}
+use Prim.Native.Nat.{ℕ, zero, suc, _+_, _*_, _≤_, _<_}
 use native.Mathlib.Omega.{arith}
 use mathlib.Core.Path.{_≡_, refl, sym, _∙_}
-use mathlib.Core.Bool.{Bool, true, false, cond}
 use mathlib.Core.List.{[], _∷_}
-use lib.Dec.{eqb}
 use lib.ListN.{getD}
 use Rattle.units.specs.declared.Ticks.{Ticks}
 use Rattle.sets.specs.Sets.{_∩_, size}
@@ -20,7 +18,8 @@ use Rattle.costs.specs.declared.Charge.the-variants.{Victim}
 use Rattle.costs.specs.Gather.{aff, unionOf, largestAt, FirstLargest}
 use Rattle.costs.specs.Costs.{reloadsIn, reloadsOf, ucbOf, ecbOf, chargeAt}
 use Rattle.costs.proofs.HitLaws.{first-largest}
-use Rattle.need.specs.Needs.{neededOf, isSooner, needUnder, smallerOf, needOf}
+use Rattle.need.specs.Needs.{neededOf, needOf}
+use Rattle.need.proofs.NeedLaws.{need-by}
 use Rattle.explanation.specs.Explanation.{activationsIn}
 
 -- ---- own time, blocking and the products
@@ -36,24 +35,14 @@ module _ (table : Table) (i : ℕ) where
   needed-adds-up m R e = sym (answer-reached _ 250000000 R (sym e) .2)
 
   -- what is needed is needed under the method that is told
-  need-own : (m : ℕ) → needOf table m i .time ≡ neededOf table (needOf table m i .method) i
+  need-own : (m : ℕ) → m ≤ 5 → needOf table m i .time ≡ neededOf table (needOf table m i .method) i
   unfolding needOf
-  need-own m = go (eqb m 5)
-    where
-      union : (t : Bool) → cond t (needUnder (λ k. neededOf table k i) 3) (needUnder (λ k. neededOf table k i) 4) .time
-          ≡ neededOf table (cond t (needUnder (λ k. neededOf table k i) 3) (needUnder (λ k. neededOf table k i) 4) .method) i
-      union true = refl
-      union false = refl
-
-      go : (t : Bool) → cond t (smallerOf (needUnder (λ k. neededOf table k i) 3) (needUnder (λ k. neededOf table k i) 4)) (needUnder (λ k. neededOf table k i) m) .time
-          ≡ neededOf table (cond t (smallerOf (needUnder (λ k. neededOf table k i) 3) (needUnder (λ k. neededOf table k i) 4)) (needUnder (λ k. neededOf table k i) m) .method) i
-      go true = union (isSooner (neededOf table 3 i) (neededOf table 4 i))
-      go false = refl
+  need-own m h = need-by (λ need. need .time ≡ neededOf table (need .method) i) (λ k. neededOf table k i) m h (λ k _. refl)
 
   -- C + B, and what the line of each task above adds, are what is needed, whichever of the six methods is explained
-  pub explanation-adds-up : (m : ℕ) (R : Ticks) → needOf table m i .time ≡ Within R
+  pub explanation-adds-up : (m : ℕ) → m ≤ 5 → (R : Ticks) → needOf table m i .time ≡ Within R
       → fold _+_ (at table i .work .0 + at table i .blocking .0) (addsAt table (needOf table m i .method) i (R .0)) (hp i) ≡ R .0
-  explanation-adds-up m R e = needed-adds-up (needOf table m i .method) R (sym (need-own m) ∙ e)
+  explanation-adds-up m h R e = needed-adds-up (needOf table m i .method) R (sym (need-own m h) ∙ e)
 
 -- ---- the victim
 

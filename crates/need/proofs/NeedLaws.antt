@@ -6,7 +6,7 @@ use mathlib.Core.Path.{_≡_, refl, sym, ap, ap₂, _∙_, fun-ext}
 use mathlib.Core.Bool.{Bool, true, false, cond}
 use mathlib.Core.List.{List}
 use lib.Dec.{eqb, ltb, leb}
-use borrow.Author.Tests.{eq-eqb, ne-eqb, le-leb, lt-leb, ltb-true, ltb-false}
+use borrow.Author.Tests.{eq-eqb, ne-eqb, eqb-false, le-leb, lt-leb, ltb-true, ltb-false}
 use Rattle.units.specs.declared.Ticks.{Ticks}
 use Rattle.demand.specs.declared.Response.{Response}
 use Rattle.demand.specs.declared.Response.the-variants.{Within, Unschedulable}
@@ -31,6 +31,21 @@ module _ (N : ℕ → Response) (m : ℕ) where
 
   pub explained-combined : m ≡ 5 → smallerOf (needUnder N 3) (needUnder N 4) ≡ explainedOf N m
   explained-combined e = simp (eq-eqb _ _ e)
+
+-- what holds of what is needed under each of the methods 0 to 4 holds of the need that is explained
+pub need-by : (P : Need → Type 0) (N : ℕ → Response) (m : ℕ) → m ≤ 5 → ((k : ℕ) → k ≤ 4 → P (needUnder N k)) → P (explainedOf N m)
+need-by P N m h each = go (eqb m 5) refl
+  where
+    union : (t : Bool) → P (cond t (needUnder N 3) (needUnder N 4))
+    union true = each 3 (omega arith)
+    union false = each 4 (omega arith)
+
+    below : (m ≡ 5 → ⊥) → m ≤ 4
+    below n = omega arith
+
+    go : (t : Bool) → eqb m 5 ≡ t → P (cond t (smallerOf (needUnder N 3) (needUnder N 4)) (needUnder N m))
+    go true e = union (isSooner (N 3) (N 4))
+    go false e = each m (below (eqb-false m 5 e))
 
 -- ---- the board's need is the table's
 
