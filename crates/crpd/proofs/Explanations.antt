@@ -22,19 +22,19 @@ use Rattle.need.specs.Needs.{neededOf, needOf}
 use Rattle.writer.specs.Text.{digitsOf, spelled}
 use Rattle.explanation.specs.Explanation.{needLine, reasonLine, explanationOf}
 use Rattle.table.specs.declared.Ruling.the-variants.{Accepted}
-use Rattle.crpd.specs.Operations.{askedOf}
+use Rattle.crpd.specs.Operations.{taskRulingOf}
 use Rattle.crpd.proofs.TableA.{text}
 
 -- what is answered to a text, unless the buffer is too short
 abbrev explained : List ℕ → ℕ → ℕ → List ℕ → Type 0
-explained text m i explanation = (askedOf text m i ≡ Accepted) × (explanationOf (readText text .table) m i ≡ explanation)
+explained text m i explanation = (taskRulingOf text m i ≡ Accepted) × (explanationOf (readText text .table) m i ≡ explanation)
 
 -- method 5 answers 9 for c of table A, as method 4 does: X c 4 9 60 2 0; I a 1 2 b; I b 1 2 c
 pub explained-of-table-a : explained text 5 2
     (88 ∷ 9 ∷ 99 ∷ 9 ∷ 52 ∷ 9 ∷ 57 ∷ 9 ∷ 54 ∷ 48 ∷ 9 ∷ 50 ∷ 9 ∷ 48 ∷ 10 ∷
     73 ∷ 9 ∷ 97 ∷ 9 ∷ 49 ∷ 9 ∷ 50 ∷ 9 ∷ 98 ∷ 10 ∷
     73 ∷ 9 ∷ 98 ∷ 9 ∷ 49 ∷ 9 ∷ 50 ∷ 9 ∷ 99 ∷ 10 ∷ [])
-unfolding everyByte sameBytes upTo after occurrences pastTabs field lines readDigits readNumber hasShape isName hexDigit readHex bind readSet ∅ _∪_ _∩_ sizeBelow size numberOf members wordsOf firstFault textFault headInRange headFault taskInRange taskInOrder knows taskFault endFault readFrom readLines readText headSaid timesSaid fieldsSaid taskSaid at withTask demandOf firstOf leastOf run fold reloadsOf neededOf needOf digitsOf spelled flatMap needLine reasonLine explanationOf askedOf
+unfolding everyByte sameBytes upTo after occurrences pastTabs field lines readDigits readNumber hasShape isName hexDigit readHex bind readSet ∅ _∪_ _∩_ sizeBelow size numberOf members wordsOf firstFault textFault headInRange headFault taskInRange taskInOrder knows taskFault endFault readFrom readLines readText headSaid timesSaid fieldsSaid taskSaid at withTask demandOf firstOf leastOf run fold reloadsOf neededOf needOf digitsOf spelled flatMap needLine reasonLine explanationOf taskRulingOf
 explained-of-table-a = (refl, refl)
 
 -- K 4 0; T a 2 5 5 1 0 0 0; T b 3 8 6 0 0 0 0
@@ -48,5 +48,5 @@ text-p =
 pub explained-past-its-limit : explained text-p 0 1
     (88 ∷ 9 ∷ 98 ∷ 9 ∷ 48 ∷ 9 ∷ 55 ∷ 9 ∷ 54 ∷ 9 ∷ 51 ∷ 9 ∷ 48 ∷ 10 ∷
     73 ∷ 9 ∷ 97 ∷ 9 ∷ 50 ∷ 9 ∷ 48 ∷ 9 ∷ 45 ∷ 10 ∷ [])
-unfolding everyByte sameBytes upTo after occurrences pastTabs field lines readDigits readNumber hasShape isName hexDigit readHex bind readSet ∅ _∪_ _∩_ sizeBelow size numberOf members wordsOf firstFault textFault headInRange headFault taskInRange taskInOrder knows taskFault endFault readFrom readLines readText headSaid timesSaid fieldsSaid taskSaid at withTask demandOf firstOf leastOf run fold reloadsOf neededOf needOf digitsOf spelled flatMap needLine reasonLine explanationOf askedOf
+unfolding everyByte sameBytes upTo after occurrences pastTabs field lines readDigits readNumber hasShape isName hexDigit readHex bind readSet ∅ _∪_ _∩_ sizeBelow size numberOf members wordsOf firstFault textFault headInRange headFault taskInRange taskInOrder knows taskFault endFault readFrom readLines readText headSaid timesSaid fieldsSaid taskSaid at withTask demandOf firstOf leastOf run fold reloadsOf neededOf needOf digitsOf spelled flatMap needLine reasonLine explanationOf taskRulingOf
 explained-past-its-limit = (refl, refl)

@@ -20,9 +20,9 @@ use Rattle.delivery.specs.declared.Written.the-variants as written
 use Rattle.delivery.specs.Delivery.{writtenOf, Delivered}
 use Rattle.crpd.specs.declared.Reply.{Reply}
 use Rattle.crpd.specs.declared.Reply.the-variants.{Within, Unschedulable, Refused}
-use Rattle.crpd.specs.Operations.{replyOf, unlessRefused, answerTo, ruledAnswer, TextWritten, askedOf}
+use Rattle.crpd.specs.Operations.{replyOf, unlessRefused, answerTo, ruledAnswer, TextWritten, taskRulingOf}
 use Rattle.crpd.specs.Codes.{SmallRefusal, writtenCode, SmallWritten, TextCoded}
-use Rattle.crpd.proofs.Steps.{asked-by, answer-asked}
+use Rattle.crpd.proofs.Steps.{task-ruling-by, answer-by-ruling}
 
 -- a number up to 14 that tells no line
 small : (n : ℕ) → n ≤ 14 → SmallRefusal (refusal n)
@@ -54,12 +54,12 @@ read-small text = go (readText text .ruling) refl
     go ruling.Accepted e = tt
     go (ruling.Refused r) e = refusal-small text r e
 
-pub asked-small : (text : List ℕ) (m i : ℕ) → SmallRuling (askedOf text m i)
-unfolding askedOf
-asked-small text m i = asked-by SmallRuling m i (readText text .ruling) (readText text .table .count) (small 12 (omega arith)) (refusal-small text) (small 13 (omega arith)) (λ _. tt)
+pub task-ruling-small : (text : List ℕ) (m i : ℕ) → SmallRuling (taskRulingOf text m i)
+unfolding taskRulingOf
+task-ruling-small text m i = task-ruling-by SmallRuling m i (readText text .ruling) (readText text .table .count) (small 12 (omega arith)) (refusal-small text) (small 13 (omega arith)) (λ _. tt)
 
 reply-small : (text : List ℕ) (m i : ℕ) → SmallReply (answerTo text m i)
-reply-small text m i = rw (← answer-asked text m i) (go (askedOf text m i) (asked-small text m i))
+reply-small text m i = rw (← answer-by-ruling text m i) (go (taskRulingOf text m i) (task-ruling-small text m i))
   where
     go : (v : Ruling) → SmallRuling v → SmallReply (unlessRefused Refused v (replyOf (responseOf (readText text .table) m i)))
     go ruling.Accepted p = reply-of-small (responseOf (readText text .table) m i)

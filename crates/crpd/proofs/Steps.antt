@@ -26,7 +26,7 @@ use Rattle.delivery.specs.Error.{errorText}
 use Rattle.delivery.proofs.Deliveries.{fitting}
 use Rattle.crpd.specs.declared.Reply.{Reply}
 use Rattle.crpd.specs.declared.Reply.the-variants.{Refused}
-use Rattle.crpd.specs.Operations.{replyOf, unlessRefused, answerTo, TextWritten, reportIn, TextReported, askedRuling, askedOf, TextExplained, printedOf, printed}
+use Rattle.crpd.specs.Operations.{replyOf, unlessRefused, answerTo, TextWritten, reportIn, TextReported, taskRuling, taskRulingOf, TextExplained, printedOf, printed}
 
 -- ---- a text that is written
 
@@ -44,7 +44,7 @@ module _ {ruled : Ruling} {most : ℕ} {text out : List ℕ} where
 -- ---- a task that is asked for
 
 -- where it may be asked for
-pub record Asked (m i : ℕ) (read : Ruling) (count : ℕ) : Type 0 where
+pub record Allowed (m i : ℕ) (read : Ruling) (count : ℕ) : Type 0 where
   pub method : m ≤ 5
   pub accepted : read ≡ ruling.Accepted
   pub held : i < count
@@ -52,9 +52,9 @@ pub record Asked (m i : ℕ) (read : Ruling) (count : ℕ) : Type 0 where
 -- what holds of each ruling where it is given
 module _ (P : Ruling → Type 0) (m i : ℕ) (read : Ruling) (count : ℕ) (method-refused : P (ruling.Refused (refusal 12)))
     (text-refused : (r : Refusal) → read ≡ ruling.Refused r → P (ruling.Refused r)) (position-refused : P (ruling.Refused (refusal 13)))
-    (accepted : Asked m i read count → P ruling.Accepted) where
-  pub asked-by : P (askedRuling m i read count)
-  asked-by = method (ltb 5 m) refl
+    (accepted : Allowed m i read count → P ruling.Accepted) where
+  pub task-ruling-by : P (taskRuling m i read count)
+  task-ruling-by = method (ltb 5 m) refl
     where
       position : m ≤ 5 → read ≡ ruling.Accepted → (t : Bool) → leb count i ≡ t → P (cond t (ruling.Refused (refusal 13)) ruling.Accepted)
       position h e true l = position-refused
@@ -69,37 +69,37 @@ module _ (P : Ruling → Type 0) (m i : ℕ) (read : Ruling) (count : ℕ) (meth
       method true l = method-refused
       method false l = text (ltb-false 5 m l) read refl
 
-pub asked-accepted : (m i : ℕ) (read : Ruling) (count : ℕ) → askedRuling m i read count ≡ ruling.Accepted → Asked m i read count
-asked-accepted m i read count =
-    asked-by (λ v. v ≡ ruling.Accepted → Asked m i read count) m i read count (refused _) (λ r _. refused r) (refused _) (λ a _. a)
+pub task-ruling-accepted : (m i : ℕ) (read : Ruling) (count : ℕ) → taskRuling m i read count ≡ ruling.Accepted → Allowed m i read count
+task-ruling-accepted m i read count =
+    task-ruling-by (λ v. v ≡ ruling.Accepted → Allowed m i read count) m i read count (refused _) (λ r _. refused r) (refused _) (λ a _. a)
   where
-    refused : (r : Refusal) → ruling.Refused r ≡ ruling.Accepted → Asked m i read count
+    refused : (r : Refusal) → ruling.Refused r ≡ ruling.Accepted → Allowed m i read count
     refused r e = let z : _≡_ {A = ℕ} 0 1 = cc in absurd (omega arith)
 
 -- one answer is refused as an explanation is, before the buffer is looked at
 module _ (m i count : ℕ) (reply : Reply) where
-  asked-position : (t : Bool) → unlessRefused Refused (cond t (ruling.Refused (refusal 13)) ruling.Accepted) reply ≡ cond t (Refused (refusal 13)) reply
-  asked-position true = refl
-  asked-position false = refl
+  reply-position : (t : Bool) → unlessRefused Refused (cond t (ruling.Refused (refusal 13)) ruling.Accepted) reply ≡ cond t (Refused (refusal 13)) reply
+  reply-position true = refl
+  reply-position false = refl
 
-  asked-text : (v : Ruling) → unlessRefused Refused (unlessRefused ruling.Refused v (cond (leb count i) (ruling.Refused (refusal 13)) ruling.Accepted)) reply
+  reply-text : (v : Ruling) → unlessRefused Refused (unlessRefused ruling.Refused v (cond (leb count i) (ruling.Refused (refusal 13)) ruling.Accepted)) reply
       ≡ unlessRefused Refused v (cond (leb count i) (Refused (refusal 13)) reply)
-  asked-text ruling.Accepted = asked-position (leb count i)
-  asked-text (ruling.Refused r) = refl
+  reply-text ruling.Accepted = reply-position (leb count i)
+  reply-text (ruling.Refused r) = refl
 
-  asked-method : (v : Ruling) (t : Bool)
+  reply-method : (v : Ruling) (t : Bool)
       → unlessRefused Refused (cond t (ruling.Refused (refusal 12)) (unlessRefused ruling.Refused v (cond (leb count i) (ruling.Refused (refusal 13)) ruling.Accepted))) reply
       ≡ cond t (Refused (refusal 12)) (unlessRefused Refused v (cond (leb count i) (Refused (refusal 13)) reply))
-  asked-method v true = refl
-  asked-method v false = asked-text v
+  reply-method v true = refl
+  reply-method v false = reply-text v
 
 module _ (text : List ℕ) (m i : ℕ) where
-  pub answer-asked : unlessRefused Refused (askedOf text m i) (replyOf (responseOf (readText text .table) m i)) ≡ answerTo text m i
-  unfolding askedOf answerTo
-  answer-asked = asked-method m i (readText text .table .count) (replyOf (responseOf (readText text .table) m i)) (readText text .ruling) (ltb 5 m)
+  pub answer-by-ruling : unlessRefused Refused (taskRulingOf text m i) (replyOf (responseOf (readText text .table) m i)) ≡ answerTo text m i
+  unfolding taskRulingOf answerTo
+  answer-by-ruling = reply-method m i (readText text .table .count) (replyOf (responseOf (readText text .table) m i)) (readText text .ruling) (ltb 5 m)
 
-  pub answer-ruled : (v : Ruling) → askedOf text m i ≡ v → unlessRefused Refused v (replyOf (responseOf (readText text .table) m i)) ≡ answerTo text m i
-  answer-ruled v e = rw (← e) answer-asked
+  pub answer-ruled : (v : Ruling) → taskRulingOf text m i ≡ v → unlessRefused Refused v (replyOf (responseOf (readText text .table) m i)) ≡ answerTo text m i
+  answer-ruled v e = rw (← e) answer-by-ruling
 
 -- ---- a text that was read
 
@@ -115,28 +115,28 @@ module _ (text : List ℕ) (o : Outcome) (read : o ≡ readText text) where
   report-accepted out w after e d = text-accepted (ruling-is ruling.Accepted e) (rw read at (d .delivered)) (rw read at (d .short))
 
   -- of one task
-  module _ (m i : ℕ) (v : Ruling) (ruled : v ≡ askedRuling m i (o .ruling) (o .table .count)) where
-    asked-is : askedOf text m i ≡ v
-    unfolding askedOf
-    asked-is = rw (← read) (sym ruled)
+  module _ (m i : ℕ) (v : Ruling) (ruled : v ≡ taskRuling m i (o .ruling) (o .table .count)) where
+    task-ruling-is : taskRulingOf text m i ≡ v
+    unfolding taskRulingOf
+    task-ruling-is = rw (← read) (sym ruled)
 
     pub answer-refused : (r : Refusal) → v ≡ ruling.Refused r → Refused r ≡ answerTo text m i
-    answer-refused r e = answer-ruled text m i (ruling.Refused r) (asked-is ∙ e)
+    answer-refused r e = answer-ruled text m i (ruling.Refused r) (task-ruling-is ∙ e)
 
     pub explain-refused : (r : Refusal) (out : List ℕ) → v ≡ ruling.Refused r → TextExplained text m i out (written.Refused r) out
-    explain-refused r out e = text-refused (asked-is ∙ e)
+    explain-refused r out e = text-refused (task-ruling-is ∙ e)
 
     module _ (e : v ≡ ruling.Accepted) where
-      pub asked-answerable : Answerable 5 (o .table) m i
-      asked-answerable =
-          let a = asked-accepted m i (o .ruling) (o .table .count) (sym ruled ∙ e) in
+      pub ruled-answerable : Answerable 5 (o .table) m i
+      ruled-answerable =
+          let a = task-ruling-accepted m i (o .ruling) (o .table .count) (sym ruled ∙ e) in
           record { method = a .method; held = a .held; accepted = outcome-accepted (a .accepted) }
 
       pub answer-accepted : replyOf (responseOf (o .table) m i) ≡ answerTo text m i
-      answer-accepted = rw read (answer-ruled text m i ruling.Accepted (asked-is ∙ e))
+      answer-accepted = rw read (answer-ruled text m i ruling.Accepted (task-ruling-is ∙ e))
 
       pub explain-accepted : (out : List ℕ) (w : Written) (after : List ℕ) → Explained (o .table) m i out w after → TextExplained text m i out w after
-      explain-accepted out w after d = text-accepted (asked-is ∙ e) (rw read at (d .delivered)) (rw read at (d .short))
+      explain-accepted out w after d = text-accepted (task-ruling-is ∙ e) (rw read at (d .delivered)) (rw read at (d .short))
 
 -- ---- what is printed
 

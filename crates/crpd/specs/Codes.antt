@@ -12,7 +12,7 @@ use Rattle.delivery.specs.declared.Written.the-variants as written
 use Rattle.delivery.specs.Delivery.{writtenOf, bufferOf}
 use Rattle.crpd.specs.declared.Reply.{Reply}
 use Rattle.explanation.specs.Explanation.{explanationOf}
-use Rattle.crpd.specs.Operations.{ruledAnswer, ruledBuffer, reportIn, askedOf}
+use Rattle.crpd.specs.Operations.{ruledAnswer, ruledBuffer, reportIn, taskRulingOf}
 use Rattle.crpd.specs.declared.Reply.the-variants.{Within, Unschedulable, Refused}
 
 -- the refusals that there are: up to number 14, and lines of a text of at most 16,384 bytes
@@ -48,7 +48,7 @@ ReportCoded text = TextCoded (readText text .ruling) (reportIn (readText text .t
 
 -- that of an explanation
 abbrev pub ExplanationCoded : List ℕ → ℕ → ℕ → List ℕ → ℕ → List ℕ → Type 0
-ExplanationCoded text m i = TextCoded (askedOf text m i) (explanationOf (readText text .table) m i)
+ExplanationCoded text m i = TextCoded (taskRulingOf text m i) (explanationOf (readText text .table) m i)
 
 -- the number of a text that is delivered whole or refused, and the buffer
 pub record DeliveryCoded (text before : List ℕ) (code : ℕ) (after : List ℕ) : Type 0 where

@@ -74,18 +74,18 @@ TextReported text = TextWritten (readText text .ruling) 2746 (reportIn (readText
 -- ---- an explanation
 
 -- 12 where there is no such method, then the refusal of the text that was read, then 13 where there is no task at the position
-abbrev pub askedRuling : ℕ → ℕ → Ruling → ℕ → Ruling
-askedRuling m i read count =
+abbrev pub taskRuling : ℕ → ℕ → Ruling → ℕ → Ruling
+taskRuling m i read count =
     cond (ltb 5 m) (ruling.Refused (refusal 12))
     (unlessRefused ruling.Refused read (cond (leb count i) (ruling.Refused (refusal 13)) ruling.Accepted))
 
 -- the ruling on a text, of which the task at i is asked for under method m
-unfoldable pub askedOf : List ℕ → ℕ → ℕ → Ruling
-askedOf text m i = askedRuling m i (readText text .ruling) (readText text .table .count)
+unfoldable pub taskRulingOf : List ℕ → ℕ → ℕ → Ruling
+taskRulingOf text m i = taskRuling m i (readText text .ruling) (readText text .table .count)
 
 -- these refusals, and then 14; never longer than 1,317 bytes
 abbrev pub TextExplained : List ℕ → ℕ → ℕ → List ℕ → Written → List ℕ → Type 0
-TextExplained text m i = TextWritten (askedOf text m i) 1317 (explanationOf (readText text .table) m i)
+TextExplained text m i = TextWritten (taskRulingOf text m i) 1317 (explanationOf (readText text .table) m i)
 
 -- ---- what the program prints: the report, or the line of the refusal
 

@@ -13,7 +13,7 @@ ghost use Rattle.table.specs.Accepted.{AcceptedTable};
 ghost use Rattle.writer.specs.Wrote.{Wrote};
 ghost use Rattle.analysis.specs.Analysis.{responseOf};
 ghost use Rattle.report.specs.Reported.{Reported};
-ghost use Rattle.crpd.specs.Operations.{replyOf, askedRuling, answerTo, TextReported, TextExplained, printed};
+ghost use Rattle.crpd.specs.Operations.{replyOf, taskRuling, answerTo, TextReported, TextExplained, printed};
 
 // What is answered of a task under a method.
 pub enum Reply {
@@ -32,8 +32,8 @@ fn reply_of(response: Response) -> Reply
 }
 
 // The ruling where the task at a position is asked for under a method, of a text that was read and has so many tasks.
-fn asked(method: u64, position: u64, read: Ruling, count: usize) -> Ruling
-    ensures { λ r. ⌜ r ≡ askedRuling method position read count ⌝ }
+fn task_ruling(method: u64, position: u64, read: Ruling, count: usize) -> Ruling
+    ensures { λ r. ⌜ r ≡ taskRuling method position read count ⌝ }
 {
     if 5 < method {
         return Ruling::Refused(Refusal {
@@ -60,7 +60,7 @@ pub fn answer(text: &[u8], method: u64, position: u64) -> Reply
     let outcome = table::read(text);
     let read = outcome.ruling;
     let table = outcome.table;
-    let ruling = asked(method, position, read, table.count);
+    let ruling = task_ruling(method, position, read, table.count);
     if let Ruling::Refused(refusal) = ruling {
         return Reply::Refused(refusal);
     }
@@ -94,7 +94,7 @@ pub fn explain(text: &[u8], method: u64, position: u64, out: &mut [u8]) -> Writt
     let outcome = table::read(text);
     let read = outcome.ruling;
     let table = outcome.table;
-    let ruling = asked(method, position, read, table.count);
+    let ruling = task_ruling(method, position, read, table.count);
     if let Ruling::Refused(refusal) = ruling {
         return Written::Refused(refusal);
     }

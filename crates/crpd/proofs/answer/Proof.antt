@@ -2,7 +2,7 @@
 -- Assumes nothing.
 use mathlib.Core.Path.{ap, _∙_}
 use Rattle.crpd.specs.Operations.{replyOf}
-use Rattle.crpd.proofs.Steps.{answer-refused, asked-answerable, answer-accepted}
+use Rattle.crpd.proofs.Steps.{answer-refused, ruled-answerable, answer-accepted}
 use borrow.Author.Needs.{needs}
 use Rattle.crpd.proofs.answer.Statement.{statement}
 use Rattle.crpd.proofs.answer.Tie as tie
@@ -11,13 +11,13 @@ returns : tie.Need-returns
 returns c =
     let v = c .before .before .before in
     let r = v .before .before .read in
-    answer-refused _ (r .result) (r .ensures) _ _ (v .asked .result) (v .asked .ensures) _ (c .before .ruling .given .1)
+    answer-refused _ (r .result) (r .ensures) _ _ (v .task-ruling .result) (v .task-ruling .ensures) _ (c .before .ruling .given .1)
 
 respond-requires : tie.Need-respond-requires
 respond-requires c κs =
     let v = c .before .before in
     let r = v .before .before .read in
-    asked-answerable _ (r .result) (r .ensures) _ _ (v .asked .result) (v .asked .ensures) (c .enum-told .given .1)
+    ruled-answerable _ (r .result) (r .ensures) _ _ (v .task-ruling .result) (v .task-ruling .ensures) (c .enum-told .given .1)
 
 returns-2 : tie.Need-returns-2
 returns-2 c =
@@ -25,7 +25,7 @@ returns-2 c =
     let r = v .before .before .read in
     c .reply-of .ensures
     ∙ ap replyOf (c .before .respond .ensures)
-    ∙ answer-accepted _ (r .result) (r .ensures) _ _ (v .asked .result) (v .asked .ensures) (c .before .before .enum-told .given .1)
+    ∙ answer-accepted _ (r .result) (r .ensures) _ _ (v .task-ruling .result) (v .task-ruling .ensures) (c .before .before .enum-told .given .1)
 
 pub answer-spec : {M : Type 1} → statement M
 answer-spec =

@@ -1,6 +1,6 @@
 -- `crpd::explain` meets its contract, by the ruling.
 -- Assumes nothing.
-use Rattle.crpd.proofs.Steps.{explain-refused, asked-answerable, explain-accepted}
+use Rattle.crpd.proofs.Steps.{explain-refused, ruled-answerable, explain-accepted}
 use borrow.Author.Needs.{needs}
 use Rattle.crpd.proofs.explain.Statement.{statement}
 use Rattle.crpd.proofs.explain.Tie as tie
@@ -9,19 +9,19 @@ returns : tie.Need-returns
 returns c =
     let v = c .before .before .before in
     let r = v .before .before .read in
-    explain-refused _ (r .result) (r .ensures) _ _ (v .asked .result) (v .asked .ensures) _ _ (c .before .ruling .given .1)
+    explain-refused _ (r .result) (r .ensures) _ _ (v .task-ruling .result) (v .task-ruling .ensures) _ _ (c .before .ruling .given .1)
 
 explain-requires : tie.Need-explain-requires
 explain-requires c κs =
     let v = c .before .before .before in
     let r = v .before .before .read in
-    asked-answerable _ (r .result) (r .ensures) _ _ (v .asked .result) (v .asked .ensures) (c .before .enum-told .given .1)
+    ruled-answerable _ (r .result) (r .ensures) _ _ (v .task-ruling .result) (v .task-ruling .ensures) (c .before .enum-told .given .1)
 
 returns-2 : tie.Need-returns-2
 returns-2 c =
     let v = c .before .before .before .before .before .before in
     let r = v .before .before .read in
-    explain-accepted _ (r .result) (r .ensures) _ _ (v .asked .result) (v .asked .ensures) (c .before .before .before .before .enum-told .given .1) _ _ _ (c .before .before .explain .ensures)
+    explain-accepted _ (r .result) (r .ensures) _ _ (v .task-ruling .result) (v .task-ruling .ensures) (c .before .before .before .before .enum-told .given .1) _ _ _ (c .before .before .explain .ensures)
 
 pub explain-spec : {M : Type 1} → statement M
 explain-spec =
