@@ -85,17 +85,22 @@ impl Turns {
 }
 
 pub fn answer(text: &[u8], method: u64, position: u64) -> u64 {
-    if method >= METHODS as u64 {
-        return code((12, 0));
-    }
-    match read(text) {
+    match asked(text, method, position) {
         Err(refused) => code(refused),
-        Ok(table) if position >= table.tasks.len() as u64 => code((13, 0)),
-        Ok(table) => {
-            let turns = &mut Turns::unbounded();
-            single(&table, method as usize, position as usize, turns)
-        }
+        Ok((table, i)) => single(&table, method as usize, i, &mut Turns::unbounded()),
     }
+}
+
+/// The table of a text, and the position of a task of it that is asked for under a method.
+fn asked(text: &[u8], method: u64, position: u64) -> Result<(Table, usize), Refused> {
+    if method >= METHODS as u64 {
+        return Err((12, 0));
+    }
+    let table = read(text)?;
+    if position >= table.tasks.len() as u64 {
+        return Err((13, 0));
+    }
+    Ok((table, position as usize))
 }
 
 pub fn report(text: &[u8], out: &mut [u8]) -> u64 {

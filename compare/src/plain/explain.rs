@@ -1,7 +1,7 @@
 //! The plain version's explanations.
 
-use super::{code, give, intersection, read, search, size, union};
-use super::{Table, Turns, METHODS, TASKS_MOST};
+use super::{asked, code, give, intersection, search, size, union};
+use super::{Table, Turns, TASKS_MOST};
 
 const EXPLANATION_MOST: usize = 1_317;
 
@@ -32,14 +32,9 @@ pub fn explain_within(
     out: &mut [u8],
     turns: &mut Turns,
 ) -> u64 {
-    if method >= METHODS as u64 {
-        return code((12, 0));
-    }
-    match read(text) {
+    match asked(text, method, position) {
         Err(refused) => code(refused),
-        Ok(table) if position >= table.tasks.len() as u64 => code((13, 0)),
-        Ok(table) => {
-            let i = position as usize;
+        Ok((table, i)) => {
             let reason = match method {
                 5 => of_combined(&table, i, turns),
                 _ => reason(&table, method as usize, i, FIGURE_MOST, turns),

@@ -51,12 +51,15 @@ combined-same A B m h p = go (eqb m 5) refl
 -- ---- the answers of a board
 
 module _ (table : Table) (n : ℕ) (board : List ℕ) (is : BoardOf table n board) (i : ℕ) (here : i < n) where
+  -- within any limit
+  pub least-on-is : (m limit : ℕ) → leastOn board m i limit ≡ leastOf (demandOf (ownOf (at table i)) (termAt table m i) i) limit
+  least-on-is m limit =
+      rw (is .tasks i here .own)
+      (ap (λ (f : ℕ → ℕ). leastOf f limit) (demand-same (ownOf (at table i)) _ _ i (λ j l. term-is table n board is m i j here l)))
+
   pub answer-is : (m : ℕ) → answerOn board m i ≡ answerOf table m i
   unfolding answerOn answerOf
-  answer-is m =
-      rw (is .tasks i here .own, is .tasks i here .limit)
-      (ap (λ (f : ℕ → ℕ). leastOf f (limitOf (at table i)))
-      (demand-same (ownOf (at table i)) _ _ i (λ j l. term-is table n board is m i j here l)))
+  answer-is m = rw (is .tasks i here .limit) (least-on-is m (limitOf (at table i)))
 
   pub response-is : (m : ℕ) → m ≤ 5 → withCombined (λ k. answerOn board k i) m ≡ responseOf table m i
   unfolding responseOf

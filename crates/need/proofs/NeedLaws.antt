@@ -11,15 +11,14 @@ use Rattle.units.specs.declared.Ticks.{Ticks}
 use Rattle.demand.specs.declared.Response.{Response}
 use Rattle.demand.specs.declared.Response.the-variants.{Within, Unschedulable}
 use Rattle.demand.specs.Least.{leastOf, LeastWithin, sooner}
-use Rattle.demand.proofs.DemandLaws.{demand-same}
 use Rattle.demand.proofs.LeastLaws.{leastOf-least, least-is}
-use Rattle.tasks.specs.Tasks.{ownOf, limitOf}
+use Rattle.tasks.specs.Tasks.{limitOf}
 use Rattle.table.specs.declared.Table.{Table}
 use Rattle.table.specs.Tasks.{at}
 use Rattle.table.specs.Accepted.{AcceptedTable}
 use Rattle.board.specs.Board.{BoardOf}
-use Rattle.costs.proofs.BoardLaws.{term-is}
 use Rattle.analysis.specs.Analysis.{answerOf, responseOf}
+use Rattle.analysis.proofs.AnswerLaws.{least-on-is}
 use Rattle.need.specs.declared.Need.{Need}
 use Rattle.need.specs.Needs.{neededOf, isSooner, needUnder, smallerOf, explainedOf, needOf, neededOn, needOn}
 
@@ -52,9 +51,7 @@ need-by P N m h each = go (eqb m 5) refl
 module _ (table : Table) (n : ℕ) (board : List ℕ) (is : BoardOf table n board) (i : ℕ) (here : i < n) where
   needed-is : (m : ℕ) → neededOn board m i ≡ neededOf table m i
   unfolding neededOf
-  needed-is m =
-      rw (is .tasks i here .own)
-      (ap (λ (f : ℕ → ℕ). leastOf f 250000000) (demand-same (ownOf (at table i)) _ _ i (λ j l. term-is table n board is m i j here l)))
+  needed-is m = least-on-is table n board is i here m 250000000
 
   pub need-is : (m : ℕ) → needOn board m i ≡ needOf table m i
   unfolding needOn needOf

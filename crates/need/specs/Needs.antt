@@ -32,7 +32,7 @@ needUnder N m = record { method = m; time = N m }
 abbrev pub smallerOf : Need → Need → Need
 smallerOf a b = cond (isSooner (a .time) (b .time)) a b
 
--- what explains a figure: what is needed under its own method, and under 3 or 4 where that is 5, by 4 where these two are equal
+-- what explains the answer of method m: what is needed under m; for method 5 the smaller of what is needed under 3 and under 4, by 4 where they are equal
 abbrev pub explainedOf : (ℕ → Response) → ℕ → Need
 explainedOf N m = cond (eqb m 5) (smallerOf (needUnder N 3) (needUnder N 4)) (needUnder N m)
 

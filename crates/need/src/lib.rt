@@ -38,7 +38,7 @@ fn smaller(a: Need, b: Need) -> Need
 }
 
 // What the task at i of a board needs under one of the methods 0 to 4.
-fn under(board: &[u64], method: u64, i: usize) -> Need
+fn need_under(board: &[u64], method: u64, i: usize) -> Need
     requires { ⌜ (method ≤ 4) × Lent (now board) (i + 1) ⌝ }
     ensures { λ r. ⌜ r ≡ needUnder (λ m. neededOn (now (board .entry)) m i) method ⌝ }
 {
@@ -52,9 +52,9 @@ pub fn explained(board: &[u64], method: u64, i: usize) -> Need
     ensures { λ r. ⌜ r ≡ needOn (now (board .entry)) method i ⌝ }
 {
     if method < 5 {
-        return under(board, method, i);
+        return need_under(board, method, i);
     }
-    let ucb_union = under(board, 3, i);
-    let ecb_union = under(board, 4, i);
+    let ucb_union = need_under(board, 3, i);
+    let ecb_union = need_under(board, 4, i);
     smaller(ucb_union, ecb_union)
 }

@@ -12,14 +12,14 @@ returns : tie.Need-returns
 unfolding needOn
 returns c =
     let a = c .before .before .before .args in
-    c .under .ensures ∙ explained-single (λ (m : ℕ). neededOn (a .board .now) m (a .i)) (a .method) (omega arith)
+    c .need-under .ensures ∙ explained-single (λ (m : ℕ). neededOn (a .board .now) m (a .i)) (a .method) (omega arith)
 
 returns-2 : tie.Need-returns-2
 unfolding needOn
 returns-2 c =
     let a = c .before .before .before .before .before .args in
     c .smaller .ensures
-    ∙ ap₂ smallerOf (c .before .before .under2 .ensures) (c .before .under3 .ensures)
+    ∙ ap₂ smallerOf (c .before .before .need-under2 .ensures) (c .before .need-under3 .ensures)
     ∙ explained-combined (λ (m : ℕ). neededOn (a .board .now) m (a .i)) (a .method) (omega arith)
 
 pub explained-spec : {M : Type 1} → statement M
