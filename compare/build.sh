@@ -6,9 +6,10 @@ set -eu
 
 usage() {
     cat <<'EOF'
-usage: build.sh [--library FILE | --stand-in] [--parts FILE] [--out FOLDER]
+usage: build.sh [--library FILE] [--values FILE] [--parts FILE] [--stand-in] [--out FOLDER]
 
   --library FILE   the proved library (default: target/staticlib/libcrpd.a of the repository)
+  --values FILE    its writing of any table value (default: target/staticlib/libvalues.a)
   --parts FILE     its parts, for the benchmark (default: target/staticlib/libparts.a, if it is there)
   --stand-in       link no library: the plain version stands in for it
   --out FOLDER     where the programs go (default: target/compare of the repository)
@@ -21,6 +22,7 @@ here=$(cd "$(dirname "$0")" && pwd -P)
 root=$(dirname "$here")
 . "$root/tools/x86-64.sh"
 library=$root/target/staticlib/libcrpd.a
+values=$root/target/staticlib/libvalues.a
 parts=$root/target/staticlib/libparts.a
 stand_in=no
 out=$root/target/compare
@@ -28,10 +30,11 @@ out=$root/target/compare
 while [ $# -gt 0 ]; do
     case $1 in
     --stand-in) stand_in=yes ;;
-    --library | --parts | --out)
+    --library | --values | --parts | --out)
         [ $# -ge 2 ] || { usage >&2; exit 2; }
         case $1 in
         --library) library=$2 ;;
+        --values) values=$2 ;;
         --parts) parts=$2 ;;
         --out) out=$2 ;;
         esac
@@ -53,9 +56,11 @@ set -- $rust_flags
 
 if [ "$stand_in" = no ]; then
     [ -r "$library" ] || x86_die "there is no $library (see --library and --stand-in)"
+    [ -r "$values" ] || x86_die "there is no $values (see --values and --stand-in)"
     mkdir -p "$out/library"
     cp "$library" "$out/library/libcrpd.a"
-    set -- "$@" -L "native=$out/library" --cfg 'feature="library"'
+    cp "$values" "$out/library/libvalues.a"
+    set -- "$@" -L "native=$out/library" --cfg 'feature="library"' --cfg 'feature="values"'
     if [ -r "$parts" ]; then
         cp "$parts" "$out/library/libparts.a"
         set -- "$@" --cfg 'feature="parts"'

@@ -7,25 +7,31 @@ set -u
 here=$(cd "$(dirname "$0")" && pwd -P)
 out=$(dirname "$here")/target/compare
 library=''
+values=''
 longest=''
 stand_in=''
 while [ $# -gt 0 ]; do
     case $1 in
     --stand-in) stand_in=$1 ;;
-    --library | --longest | --out)
+    --library | --values | --longest | --out)
         [ $# -ge 2 ] || { printf 'compare: %s needs a value\n' "$1" >&2; exit 2; }
         case $1 in
         --library) library=$2 ;;
+        --values) values=$2 ;;
         --longest) longest=$2 ;;
         --out) out=$2 ;;
         esac
         shift
         ;;
-    *) printf 'usage: run.sh [--library FILE | --stand-in] [--out FOLDER] [--longest TICKS]\n' >&2; exit 2 ;;
+    *)
+        printf 'usage: run.sh [--library FILE] [--values FILE] [--stand-in] [--out FOLDER] [--longest TICKS]\n' >&2
+        exit 2
+        ;;
     esac
     shift
 done
-"$here/build.sh" --out "$out" ${library:+--library "$library"} ${stand_in:+"$stand_in"} || exit 2
+"$here/build.sh" --out "$out" ${library:+--library "$library"} ${values:+--values "$values"} \
+    ${stand_in:+"$stand_in"} || exit 2
 
 log=$out/compare.log
 compare() { "$out/compare" ${longest:+--longest "$longest"} "$@" >"$log" 2>&1; }
@@ -64,5 +70,12 @@ done
 for error in 7 8 9 10 11 12 13; do
     find_error explanations "$error"
 done
+for error in 14 15 16 17 18; do
+    find_error 'tables written again' "$error"
+done
+for error in 19 20 21; do
+    find_error 'table values' "$error"
+done
+find_error 'table values into buffers of every length' 22
 printf '%s passed, %s failed\n' "$passed" "$failed"
 [ "$failed" = 0 ]

@@ -15,6 +15,9 @@
 /* No explanation is longer. */
 #define CRPD_EXPLANATION_MOST 1317
 
+/* No accepted table text is longer. */
+#define CRPD_TABLE_MOST 6253
+
 /* The response, in ticks, of the task at a position (from 0) under a method (0 to 5), or 0 where the
  * task is unschedulable. */
 uint64_t crpd_answer(const uint8_t *text, size_t text_len, uint64_t method, uint64_t position);
@@ -28,6 +31,11 @@ uint64_t crpd_report(const uint8_t *text, size_t text_len, uint8_t *out, size_t 
  * for each task above it with what that adds. What follows it in out, and all of out where it is refused,
  * stays as it was. */
 uint64_t crpd_explain(const uint8_t *text, size_t text_len, uint64_t method, uint64_t position, uint8_t *out, size_t out_len);
+
+/* Reads the table and writes its text: the length of that text, which then stands at the start of out. A table
+ * has just one spelling, so of an accepted text it is the same bytes. What follows it in out, and all of out where
+ * it is refused, stays as it was. */
+uint64_t crpd_rewrite(const uint8_t *text, size_t text_len, uint8_t *out, size_t out_len);
 
 /* As crpd_report, for what the program crpd-report prints: the report, or the line of the text's refusal. Its
  * only refusal is 14, where out is too short. */

@@ -1,5 +1,6 @@
 /* Prints the response of every task of a table under every method, then the report, and then why combined
- * (method 5) answers for the last task what it does. The table is read from standard input. */
+ * (method 5) answers for the last task what it does, and last the table itself, read and written again. The
+ * table is read from standard input. */
 #include <stdio.h>
 
 #include "crpd.h"
@@ -10,7 +11,7 @@ static int refused(uint64_t answer) {
 }
 
 int main(void) {
-    static uint8_t text[16385], out[CRPD_REPORT_MOST];
+    static uint8_t text[16385], out[CRPD_TABLE_MOST];
     size_t len = fread(text, 1, sizeof text, stdin);
     uint64_t position = 0;
     for (;; position++) {
@@ -34,6 +35,10 @@ int main(void) {
         return refused(written);
     fwrite(out, 1, (size_t)written, stdout);
     written = crpd_explain(text, len, 5, position - 1, out, sizeof out);
+    if (crpd_is_refusal(written))
+        return refused(written);
+    fwrite(out, 1, (size_t)written, stdout);
+    written = crpd_rewrite(text, len, out, sizeof out);
     if (crpd_is_refusal(written))
         return refused(written);
     fwrite(out, 1, (size_t)written, stdout);

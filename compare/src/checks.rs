@@ -1,10 +1,11 @@
 //! Asking the model and the library the same, and telling where they differ.
 
 use crate::library;
-use crate::model::{fitting, Error, Explanation, Explanations, Outcome, Refusal, METHODS};
+use crate::model::value::{Value, NUMBERS};
+use crate::model::{fitting, Error, Explanation, Explanations, Outcome, Refusal, Writing, METHODS};
 
-/// Room for every report, every explanation and every refusal line.
-const ROOMY: usize = 2_800;
+/// Room for every report, every explanation, every table and every refusal line.
+const ROOMY: usize = 6_300;
 
 /// Bytes on either side of a buffer that have to stay as they are.
 const GUARD: usize = 64;
@@ -134,6 +135,80 @@ impl Asked {
     }
 }
 
+/// The table of one text written again, with more room than it takes and with just enough. The text
+/// itself has to come back.
+pub fn rewritten(text: &[u8], outcome: &Outcome) -> Compared {
+    let writing = outcome.writing();
+    let length = rewritten_length(&writing);
+    let mut compared = rewritten_in(text, &writing, length + 20)?;
+    compared += rewritten_in(text, &writing, length)?;
+    if writing.is_ok() {
+        let call = |out: &mut [u8]| library::rewrite(text, out);
+        compared += written("the text itself", text.len(), Ok(text), call)?;
+    }
+    Ok(compared)
+}
+
+/// The table written again into buffers of every length up to three past it.
+pub fn rewritten_rooms(text: &[u8], outcome: &Outcome) -> Compared {
+    let writing = outcome.writing();
+    let rooms = 0..=rewritten_length(&writing) + 3;
+    rooms.map(|room| rewritten_in(text, &writing, room)).sum()
+}
+
+fn rewritten_length(writing: &Result<Writing, Refusal>) -> usize {
+    writing.as_ref().map_or(20, Writing::length)
+}
+
+fn rewritten_in(text: &[u8], writing: &Result<Writing, Refusal>, room: usize) -> Compared {
+    let expected = match writing {
+        Ok(writing) => writing.text(room),
+        Err(refusal) => Err(*refusal),
+    };
+    let call = |out: &mut [u8]| library::rewrite(text, out);
+    written("table written again", room, expected, call)
+}
+
+/// One value written with more room than its text takes, with just enough and with none.
+pub fn value(value: &Value, writing: &Writing) -> Compared {
+    let length = length_within_roomy(writing);
+    let rooms = [length + 20, length, 0].into_iter();
+    let written = rooms.map(|room| value_in(&value.numbers, writing, room));
+    written.sum()
+}
+
+/// The value written into buffers of every length up to three past its text.
+pub fn value_rooms(value: &Value, writing: &Writing) -> Compared {
+    let rooms = 0..=length_within_roomy(writing) + 3;
+    let written = rooms.map(|room| value_in(&value.numbers, writing, room));
+    written.sum()
+}
+
+/// Lists of every length up to three numbers past the value.
+pub fn value_lists(value: &Value, writing: &Writing) -> Compared {
+    let lists = (0..=NUMBERS + 3).map(|length| {
+        let mut list = value.numbers.clone();
+        list.resize(length, u64::MAX);
+        value_in(&list, writing, length_within_roomy(writing))
+    });
+    lists.sum()
+}
+
+/// What a value spells that no text gives may be longer than any text.
+fn length_within_roomy(writing: &Writing) -> usize {
+    writing.length().min(ROOMY - 20)
+}
+
+fn value_in(list: &[u64], writing: &Writing, room: usize) -> Compared {
+    let expected = match Value::at_start(list) {
+        Some(_) => writing.text(room),
+        None => Ok(&[][..]),
+    };
+    let call = |out: &mut [u8]| library::write_value(list, out);
+    let what = format!("value of {} numbers", list.len());
+    written(&what, room, expected, call)
+}
+
 fn report_in(text: &[u8], outcome: &Outcome, room: usize) -> Compared {
     let call = |out: &mut [u8]| library::report(text, out);
     written("report", room, outcome.report(room), call)
@@ -170,7 +245,7 @@ fn written(
     })
 }
 
-/// What a buffer and its guards hold before a call: bytes that no report has, and no two
+/// What a buffer and its guards hold before a call: bytes that no written text has, and no two
 /// neighbours alike.
 fn pattern(room: usize) -> Vec<u8> {
     PATTERN[..room + 2 * GUARD].to_vec()
@@ -213,12 +288,18 @@ fn written_in_words(code: u64, buffer: &[u8], room: usize) -> String {
     }
 }
 
-/// One of the comparisons above.
+/// One of the comparisons above, of a text or of a value.
 pub type Check = fn(&[u8], &Outcome) -> Compared;
+pub type ValueCheck = fn(&Value, &Writing) -> Compared;
 
 /// Whether a text shows a difference: what the shrinking goes by.
 pub fn differs(check: Check, text: &[u8], error: Option<Error>) -> Option<Difference> {
     check(text, &Outcome::of(text, error)).err()
+}
+
+/// The same for a value.
+pub fn value_differs(check: ValueCheck, value: &Value, error: Option<Error>) -> Option<Difference> {
+    check(value, &Writing::of(value, error)).err()
 }
 
 #[cfg(test)]

@@ -1,9 +1,17 @@
-//! What the made-up texts have to reach at least once.
+//! What the made-up texts and table values have to reach at least once.
 
 mod explained;
+mod reasons;
+mod spelled;
+mod values;
 
-use crate::model::{Outcome, Row, Table, Task};
-use std::collections::BTreeMap;
+pub use reasons::reasons;
+
+use crate::model::value::Value;
+use crate::model::{Outcome, Row, Table, Task, Writing};
+use std::collections::{BTreeMap, BTreeSet};
+
+pub type Names = BTreeSet<String>;
 
 type OfTable = (&'static str, fn(&Table) -> bool);
 type OfTask = (&'static str, fn(&Task) -> bool);
@@ -89,6 +97,13 @@ const OF_ASKING: [&str; 4] = [
     "a refusal of the text before 14",
 ];
 
+const OF_WRITING: [&str; 4] = [
+    "written again: a refusal of the text before 14",
+    "written again: refusal 14",
+    "value refused: 14",
+    "value refused: 25 before 14",
+];
+
 /// How often each class was reached.
 #[derive(Default)]
 pub struct Classes {
@@ -99,18 +114,20 @@ impl Classes {
     /// With every class that has to be reached, besides the plans of spoiled texts.
     pub fn new() -> Classes {
         let mut classes = Classes::default();
-        for number in 1..=14 {
+        for number in (1..=14).chain([25]) {
             classes.require(&refusal_name(number));
         }
-        let names = OF_ASKING
-            .into_iter()
-            .chain(OF_TABLE.iter().map(|class| class.0));
+        let names = OF_ASKING.into_iter().chain(OF_WRITING);
+        let names = names.chain(OF_TABLE.iter().map(|class| class.0));
         let names = names.chain(OF_TASK.iter().map(|class| class.0));
         for name in names.chain(OF_ROW.iter().map(|class| class.0)) {
             classes.require(name);
         }
-        for name in explained::all() {
-            classes.require(&name);
+        for name in explained::all().iter().chain(&values::all()) {
+            classes.require(name);
+        }
+        for name in spelled::all() {
+            classes.require(&written_again(&name));
         }
         classes
     }
@@ -151,6 +168,45 @@ impl Classes {
         }
     }
 
+    pub fn reach_rewritten(&mut self, outcome: &Outcome) {
+        if let (Some(table), Ok(writing)) = (outcome.table(), outcome.writing()) {
+            for name in spelled::reached(&Value::of(table), &writing) {
+                self.reach(&written_again(&name));
+            }
+        }
+    }
+
+    pub fn reach_rewritten_in_rooms(&mut self, outcome: &Outcome) {
+        self.reach(match outcome.refusal() {
+            Some(_) => "written again: a refusal of the text before 14",
+            None => "written again: refusal 14",
+        });
+    }
+
+    /// By a value that was made from one that a text gives; `reasons` is all that is wrong with it.
+    pub fn reach_value(
+        &mut self,
+        before: &Value,
+        value: &Value,
+        writing: &Writing,
+        reasons: &Names,
+    ) {
+        for name in values::reached(before, value, writing, reasons) {
+            self.reach(&name);
+        }
+        if !writing.is_given() {
+            self.reach_refusal(25);
+        }
+    }
+
+    pub fn reach_value_in_rooms(&mut self, writing: &Writing) {
+        self.reach(if writing.is_given() {
+            "value refused: 14"
+        } else {
+            "value refused: 25 before 14"
+        });
+    }
+
     fn reach_if(&mut self, name: &str, reached: bool) {
         if reached {
             self.reach(name);
@@ -181,4 +237,8 @@ impl Classes {
 
 fn refusal_name(number: u64) -> String {
     format!("refusal {number:2}")
+}
+
+fn written_again(name: &str) -> String {
+    format!("written again: {name}")
 }

@@ -15,11 +15,14 @@ pub enum Expected {
     Explanation(u64, u64, String),
     /// Method, position and the explanation's length.
     ExplanationLength(u64, u64, usize),
+    /// The text comes back, and has this length.
+    ComesBack(usize),
+    /// By the report and by the table written again.
     Refused(Refusal),
 }
 
-/// Room for every report and every explanation.
-const ROOMY: usize = 4_096;
+/// Room for every report, every explanation and every table.
+const ROOMY: usize = 8_192;
 
 pub struct Figure {
     pub name: &'static str,
@@ -45,6 +48,13 @@ impl Figure {
             let given = written(|out| library::explain(text, method, position, out));
             [explanation.into_bytes(), given]
         };
+        let rewritten = || {
+            let model = match outcome.writing() {
+                Ok(writing) => writing.text(ROOMY).unwrap_or(&[]).to_vec(),
+                Err(_) => Vec::new(),
+            };
+            [model, written(|out| library::rewrite(text, out))]
+        };
         let agree = match &self.expected {
             Expected::Response(method, position, ticks) => {
                 answers(*method, *position).map(|answer| answer == *ticks)
@@ -60,9 +70,15 @@ impl Figure {
             Expected::ExplanationLength(method, position, expected) => {
                 explanations(*method, *position).map(|lines| lines.len() == *expected)
             }
+            Expected::ComesBack(length) => {
+                let as_told = text.len() == *length;
+                rewritten().map(|rewritten| as_told && rewritten == text)
+            }
             Expected::Refused(refusal) => {
-                let given = library::report(text, &mut [0; ROOMY]);
-                [outcome.refusal() == Some(*refusal), given == refusal.code()]
+                let report = library::report(text, &mut [0; ROOMY]);
+                let table = library::rewrite(text, &mut [0; ROOMY]);
+                let refused = [report, table] == [refusal.code(); 2];
+                [outcome.refusal() == Some(*refusal), refused]
             }
         };
         [("model", agree[0]), ("library", agree[1])]
@@ -129,6 +145,19 @@ pub fn longest_explanation() -> Vec<u8> {
     text(&spelled)
 }
 
+/// The longest accepted text there is: every name of 12 bytes, every number as long as it may be,
+/// and every cache set with a digit.
+pub fn longest_table() -> Vec<u8> {
+    let (useful, evicting) = ("9".repeat(64), "0123456789abcdef".repeat(4));
+    let mut spelled = "K 256 100000|".to_string();
+    for index in 0..32 {
+        let times = "250000000 250000000 200000000 100000000 100000000";
+        let task = format!("T longest-na{index:02} {times} {useful} {evicting}|");
+        spelled.push_str(&task);
+    }
+    text(&spelled)
+}
+
 /// Table A with lines added below it up to `length` bytes.
 fn padded(length: usize) -> Vec<u8> {
     let mut padded = text(A);
@@ -141,6 +170,7 @@ pub fn all() -> Vec<Figure> {
     let mut figures = responses();
     figures.extend(reports());
     figures.extend(explanations());
+    figures.extend(tables());
     figures.extend(refusals());
     figures
 }
@@ -230,6 +260,21 @@ fn explanations() -> Vec<Figure> {
         expected: Expected::ExplanationLength(4, 31, 1_317),
     });
     figures
+}
+
+fn tables() -> Vec<Figure> {
+    let comes_back = |name, text, length| Figure {
+        name,
+        text,
+        expected: Expected::ComesBack(length),
+    };
+    vec![
+        comes_back("A comes back", text(A), 66),
+        comes_back("B comes back", text(B), 66),
+        comes_back("M comes back", text(M), 72),
+        comes_back("P comes back", text(P), 42),
+        comes_back("the longest table comes back", longest_table(), 6_253),
+    ]
 }
 
 fn refusals() -> Vec<Figure> {

@@ -11,3 +11,4 @@ pub mod model;
 pub mod plain;
 pub mod random;
 pub mod shrink;
+pub mod values;

@@ -2,19 +2,18 @@
 
 #![no_main]
 
-use crpd_compare::checks::{self, Check, Difference};
-use crpd_compare::classes::Classes;
-use crpd_compare::figures;
+use crpd_compare::checks::{self, Check, Compared, Difference, ValueCheck};
+use crpd_compare::classes::{self, Classes};
 use crpd_compare::generate::{self, Table, TIME_MOST};
-use crpd_compare::model::{Error, Outcome};
+use crpd_compare::model::value::Value;
+use crpd_compare::model::{read, Error, Outcome, Writing};
 use crpd_compare::random::Random;
-use crpd_compare::shrink::shrink;
-use crpd_compare::{damage, library};
+use crpd_compare::shrink::{shrink, shrink_value};
+use crpd_compare::{damage, figures, library, values};
 
 crpd_compare::entry!(run);
 
-const USAGE: &str = "usage: compare [--error 1|2|3|4|5|5b|6|7|8|9|10|11|12|13] [--percent N] \
-                     [--longest TICKS]";
+const USAGE: &str = "usage: compare [--error 1 to 22 or 5b] [--percent N] [--longest TICKS]";
 const SEED: u64 = 0x5eed;
 
 /// Differences of one group that are told; the others are only counted.
@@ -100,6 +99,18 @@ struct ValidTexts {
     worst: Vec<Vec<u8>>,
 }
 
+impl ValidTexts {
+    fn all(&self) -> impl Iterator<Item = &Vec<u8>> {
+        self.common.iter().chain(&self.extreme).chain(&self.worst)
+    }
+
+    /// Those to be written into many buffers.
+    fn short(&self) -> Vec<Vec<u8>> {
+        let short = self.common.iter().filter(|text| text.len() < 400);
+        short.cloned().collect()
+    }
+}
+
 /// One of the counted groups of comparisons.
 struct Group {
     name: &'static str,
@@ -117,14 +128,44 @@ impl Group {
             differences: 0,
         }
     }
+
+    /// Counts what was compared of a text or a value, and gives a difference back that is to be told.
+    fn count(&mut self, compared: Compared) -> Option<Difference> {
+        self.texts += 1;
+        match compared {
+            Ok(compared) => {
+                self.compared += compared;
+                None
+            }
+            Err(difference) => {
+                self.compared += 1;
+                self.differences += 1;
+                Some(difference).filter(|_| self.differences <= TOLD_MOST)
+            }
+        }
+    }
+
+    /// Counts one comparison; whether it is a difference that is to be told.
+    fn differs(&mut self, agrees: bool) -> bool {
+        self.texts += 1;
+        self.compared += 1;
+        self.differences += u64::from(!agrees);
+        !agrees && self.differences <= TOLD_MOST
+    }
 }
 
 impl Comparison {
     fn run(&mut self) {
-        if self.options.error.is_some() {
+        if let Some(error) = self.options.error {
             // a wrong model has to be told by the made-up tables alone
             let valid = self.valid_texts();
-            self.explanations(&valid, &[]);
+            if error.is_of_writing() {
+                self.rewritten(&valid, &[]);
+                self.values(&valid);
+                self.value_rooms(&valid);
+            } else {
+                self.explanations(&valid, &[]);
+            }
             return;
         }
         self.figures();
@@ -136,6 +177,11 @@ impl Comparison {
         self.rooms(&valid, &refused);
         self.explanations(&valid, &refused);
         self.explanation_rooms(&valid, &refused);
+        self.rewritten(&valid, &refused);
+        self.rewritten_rooms(&valid, &refused);
+        self.values(&valid);
+        self.value_rooms(&valid);
+        self.value_lists();
         if self.options.percent == 100 {
             self.class_counts();
         }
@@ -171,21 +217,26 @@ impl Comparison {
             (200, &|random| generate::full(random, longest)),
             (30, &generate::largest),
         ]);
-        let mut worst = vec![figures::longest_report(), figures::longest_explanation()];
+        let mut worst = vec![
+            figures::longest_report(),
+            figures::longest_explanation(),
+            figures::longest_table(),
+        ];
         if self.options.error.is_none() {
             worst.extend(hard_texts(longest));
         }
+        let valid = ValidTexts {
+            common,
+            extreme,
+            worst,
+        };
         let mut group = Group::new("valid texts");
-        for text in common.iter().chain(&extreme).chain(&worst) {
+        for text in valid.all() {
             let outcome = self.compare(&mut group, checks::whole, text);
             self.reach_valid(text, &outcome);
         }
         self.close(group);
-        ValidTexts {
-            common,
-            extreme,
-            worst,
-        }
+        valid
     }
 
     fn drawn(&mut self, families: &[(u64, Draw)]) -> Vec<Vec<u8>> {
@@ -213,15 +264,12 @@ impl Comparison {
             for _ in 0..self.options.share(40) {
                 let spoiled = plan.spoil(&mut self.random);
                 let outcome = self.compare(&mut group, checks::whole, &spoiled.text);
-                reasons.texts += 1;
-                reasons.compared += 1;
-                if outcome.refusal() == Some(spoiled.refusal) {
+                let as_meant = outcome.refusal() == Some(spoiled.refusal);
+                if as_meant {
                     self.classes.reach(&spoiled.plan);
-                } else {
-                    reasons.differences += 1;
-                    if reasons.differences <= TOLD_MOST {
-                        tell_wrong_reason(&spoiled, &outcome);
-                    }
+                }
+                if reasons.differs(as_meant) {
+                    tell_wrong_reason(&spoiled, &outcome);
                 }
                 texts.push(spoiled.text);
             }
@@ -275,8 +323,7 @@ impl Comparison {
     }
 
     fn rooms(&mut self, valid: &ValidTexts, refused: &[Vec<u8>]) {
-        let short = valid.common.iter().filter(|text| text.len() < 400);
-        let short: Vec<Vec<u8>> = short.cloned().collect();
+        let short = valid.short();
         let texts = spread(&short, 300).chain(spread(refused, 100));
         let texts: Vec<&Vec<u8>> = texts.collect();
         let mut group = Group::new("reports into buffers of every length");
@@ -316,33 +363,108 @@ impl Comparison {
         self.close(group);
     }
 
-    fn compare(&mut self, group: &mut Group, check: Check, text: &[u8]) -> Outcome {
-        let outcome = Outcome::of(text, self.options.error);
-        group.texts += 1;
-        match check(text, &outcome) {
-            Ok(compared) => group.compared += compared,
-            Err(difference) => {
-                group.compared += 1;
-                group.differences += 1;
-                if group.differences <= TOLD_MOST {
-                    self.tell(group.name, check, text, difference);
+    fn rewritten(&mut self, valid: &ValidTexts, refused: &[Vec<u8>]) {
+        let mut group = Group::new("tables written again");
+        for text in valid.all().chain(refused) {
+            let outcome = self.compare(&mut group, checks::rewritten, text);
+            self.classes.reach_rewritten(&outcome);
+        }
+        self.close(group);
+    }
+
+    fn rewritten_rooms(&mut self, valid: &ValidTexts, refused: &[Vec<u8>]) {
+        let mut group = Group::new("tables written again into buffers of every length");
+        let (short, longest) = (valid.short(), figures::longest_table());
+        let texts = spread(&short, 300).chain([&longest]);
+        for text in texts.chain(spread(refused, 100)) {
+            let outcome = self.compare(&mut group, checks::rewritten_rooms, text);
+            self.classes.reach_rewritten_in_rooms(&outcome);
+        }
+        self.close(group);
+    }
+
+    fn values(&mut self, valid: &ValidTexts) {
+        let mut group = Group::new("table values");
+        let mut reasons = Group::new("refusal 25 where a value has a reason for it");
+        let share = |texts| self.options.share(texts) as usize;
+        let common = spread(&valid.common, share(2_500));
+        let texts = common.chain(spread(&valid.extreme, share(300)));
+        for (turn, text) in texts.chain(&valid.worst).enumerate() {
+            let given = value_of(text);
+            let mut values = values::changed(&mut self.random, &given, turn);
+            values.push(given.clone());
+            for value in &values {
+                let writing = self.compare_value(&mut group, checks::value, value);
+                let seen = classes::reasons(value);
+                if reasons.differs(seen.is_empty() == writing.is_given()) {
+                    println!("mismatch: a value with the reasons {seen:?}");
+                    tell_numbers(value);
                 }
+                self.classes.reach_value(&given, value, &writing, &seen);
             }
         }
+        self.close(group);
+        self.close(reasons);
+    }
+
+    fn value_rooms(&mut self, valid: &ValidTexts) {
+        let mut group = Group::new("table values into buffers of every length");
+        let mut values = Vec::new();
+        let texts = self.options.share(120) as usize;
+        for (turn, text) in spread(&valid.short(), texts).enumerate() {
+            let given = value_of(text);
+            let changed = values::changed(&mut self.random, &given, turn);
+            values.extend(changed.into_iter().step_by(4));
+            values.push(given);
+        }
+        values.push(value_of(&figures::longest_table()));
+        for value in &values {
+            let writing = self.compare_value(&mut group, checks::value_rooms, value);
+            self.classes.reach_value_in_rooms(&writing);
+        }
+        self.close(group);
+    }
+
+    fn value_lists(&mut self) {
+        let mut group = Group::new("lists of numbers of every length");
+        for text in [figures::table_p(), figures::longest_table()] {
+            self.compare_value(&mut group, checks::value_lists, &value_of(&text));
+        }
+        self.close(group);
+    }
+
+    fn compare(&mut self, group: &mut Group, check: Check, text: &[u8]) -> Outcome {
+        let outcome = Outcome::of(text, self.options.error);
+        if let Some(difference) = group.count(check(text, &outcome)) {
+            self.tell(group.name, check, text, difference);
+        }
         outcome
+    }
+
+    fn compare_value(&mut self, group: &mut Group, check: ValueCheck, value: &Value) -> Writing {
+        let writing = Writing::of(value, self.options.error);
+        if let Some(difference) = group.count(check(value, &writing)) {
+            self.tell_value(group.name, check, value, difference);
+        }
+        writing
     }
 
     fn tell(&self, group: &str, check: Check, text: &[u8], difference: Difference) {
         let differs = |text: &[u8]| checks::differs(check, text, self.options.error);
         let least = shrink(text, &|text| differs(text).is_some());
-        let difference = differs(&least).unwrap_or(difference);
-        println!("mismatch: {group}: {}", difference.asked);
-        println!("  model:   {}", difference.model);
-        println!("  library: {}", difference.library);
+        tell_difference(group, &differs(&least).unwrap_or(difference));
         println!("  the smallest text that shows it ({} bytes):", least.len());
         for line in least.split_inclusive(|byte| *byte == b'\n') {
             println!("    {}", line.escape_ascii());
         }
+    }
+
+    fn tell_value(&self, group: &str, check: ValueCheck, value: &Value, difference: Difference) {
+        let differs = |value: &Value| checks::value_differs(check, value, self.options.error);
+        let least = shrink_value(value, &|value| differs(value).is_some());
+        tell_difference(group, &differs(&least).unwrap_or(difference));
+        println!("  the smallest value that shows it:");
+        tell_numbers(&least);
     }
 
     fn class_counts(&mut self) {
@@ -358,7 +480,7 @@ impl Comparison {
         group.compared = group.texts;
         for name in self.classes.missed() {
             group.differences += 1;
-            println!("mismatch: no text reached the class \"{name}\"");
+            println!("mismatch: nothing reached the class \"{name}\"");
         }
         self.close(group);
     }
@@ -404,6 +526,22 @@ fn tell_wrong_reason(spoiled: &damage::Spoiled, outcome: &Outcome) {
         outcome.refusal(),
         spoiled.text.escape_ascii()
     );
+}
+
+fn tell_difference(group: &str, difference: &Difference) {
+    println!("mismatch: {group}: {}", difference.asked);
+    println!("  model:   {}", difference.model);
+    println!("  library: {}", difference.library);
+}
+
+fn tell_numbers(value: &Value) {
+    for line in value.lines() {
+        println!("    {line}");
+    }
+}
+
+fn value_of(text: &[u8]) -> Value {
+    Value::of(&read(text).expect("a made-up table is accepted"))
 }
 
 /// About `count` of the texts, evenly spread, or all if there are fewer.

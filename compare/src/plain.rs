@@ -2,8 +2,10 @@
 //! in for it where it is not linked.
 
 mod explain;
+mod table;
 
 pub use explain::{explain, explain_within};
+pub use table::{rewrite, spell, write_value};
 
 use std::io::Write;
 
@@ -13,6 +15,9 @@ const REPORT_MOST: usize = 2_746;
 const METHODS: usize = 6;
 
 type Words = [u64; 4];
+
+/// C, T, D, J and B.
+type Times = [u64; 5];
 
 /// A refusal's number and line.
 pub type Refused = (u64, u64);
@@ -33,6 +38,23 @@ struct Task {
 }
 
 impl Task {
+    fn new(name: &[u8], times: Times, useful: Words, evicting: Words) -> Task {
+        let [execution, period, deadline, jitter, blocking] = times;
+        let mut padded = [0; 12];
+        padded[..name.len()].copy_from_slice(name);
+        Task {
+            name: padded,
+            name_len: name.len(),
+            execution,
+            period,
+            deadline,
+            jitter,
+            blocking,
+            useful,
+            evicting,
+        }
+    }
+
     fn name(&self) -> &[u8] {
         &self.name[..self.name_len]
     }
@@ -48,6 +70,7 @@ impl Task {
 }
 
 pub struct Table {
+    sets: usize,
     reload_time: u64,
     tasks: Vec<Task>,
 }
@@ -56,6 +79,10 @@ impl Table {
     /// How many tasks it has.
     pub fn tasks(&self) -> usize {
         self.tasks.len()
+    }
+
+    fn has(&self, name: &[u8]) -> bool {
+        self.tasks.iter().any(|task| task.name() == name)
     }
 }
 
@@ -135,18 +162,18 @@ pub fn read(text: &[u8]) -> Result<Table, Refused> {
         return Err((2, 0));
     }
     let mut table = Table {
+        sets: 0,
         reload_time: 0,
         tasks: Vec::with_capacity(TASKS_MOST),
     };
-    let mut digits = 0;
     let mut from = 0;
     let mut line = 1;
     while from < text.len() {
         let (fields, found, end) = split_line(text, from);
         if line == 1 {
-            digits = read_cache(&fields, found, &mut table).map_err(|number| (number, line))?;
+            read_cache(&fields, found, &mut table).map_err(|number| (number, line))?;
         } else {
-            read_task(&fields, found, digits, &mut table).map_err(|number| (number, line))?;
+            read_task(&fields, found, &mut table).map_err(|number| (number, line))?;
         }
         from = end + 1;
         line += 1;
@@ -180,26 +207,25 @@ fn split_line(text: &[u8], from: usize) -> ([&[u8]; 9], usize, usize) {
     }
 }
 
-/// Gives the digits of a cache-set field.
-fn read_cache(fields: &[&[u8]; 9], found: usize, table: &mut Table) -> Result<usize, u64> {
+fn read_cache(fields: &[&[u8]; 9], found: usize, table: &mut Table) -> Result<(), u64> {
     if found != 3 || fields[0] != b"K" {
         return Err(3);
     }
     let sets = number(fields[1]).ok_or(5u64)?;
     let reload_time = number(fields[2]).ok_or(5u64)?;
-    if !(4..=256).contains(&sets) || sets % 4 != 0 || reload_time > 100_000 {
+    if !is_cache(sets, reload_time) {
         return Err(6);
     }
+    table.sets = sets as usize;
     table.reload_time = reload_time;
-    Ok(sets as usize / 4)
+    Ok(())
 }
 
-fn read_task(
-    fields: &[&[u8]; 9],
-    found: usize,
-    digits: usize,
-    table: &mut Table,
-) -> Result<(), u64> {
+fn is_cache(sets: u64, reload_time: u64) -> bool {
+    (4..=256).contains(&sets) && sets % 4 == 0 && reload_time <= 100_000
+}
+
+fn read_task(fields: &[&[u8]; 9], found: usize, table: &mut Table) -> Result<(), u64> {
     if table.tasks.len() == TASKS_MOST {
         return Err(10);
     }
@@ -214,33 +240,29 @@ fn read_task(
     for (time, field) in times.iter_mut().zip(&fields[2..7]) {
         *time = number(field).ok_or(5u64)?;
     }
-    let [execution, period, deadline, jitter, blocking] = times;
-    let too_large = times.iter().any(|time| *time > 250_000_000);
-    if too_large || execution == 0 || period == 0 || deadline == 0 {
+    if !in_range(times) {
         return Err(6);
     }
-    let useful = words(fields[7], digits).ok_or(7u64)?;
-    let evicting = words(fields[8], digits).ok_or(7u64)?;
-    if jitter > deadline || deadline > period {
+    let useful = words(fields[7], table.sets / 4).ok_or(7u64)?;
+    let evicting = words(fields[8], table.sets / 4).ok_or(7u64)?;
+    if !in_order(times) {
         return Err(8);
     }
-    if table.tasks.iter().any(|task| task.name() == name) {
+    if table.has(name) {
         return Err(9);
     }
-    let mut padded = [0; 12];
-    padded[..name.len()].copy_from_slice(name);
-    table.tasks.push(Task {
-        name: padded,
-        name_len: name.len(),
-        execution,
-        period,
-        deadline,
-        jitter,
-        blocking,
-        useful,
-        evicting,
-    });
+    table.tasks.push(Task::new(name, times, useful, evicting));
     Ok(())
+}
+
+fn in_range(times: Times) -> bool {
+    let [execution, period, deadline, _, _] = times;
+    let too_large = times.iter().any(|time| *time > 250_000_000);
+    !too_large && execution != 0 && period != 0 && deadline != 0
+}
+
+fn in_order([_, period, deadline, jitter, _]: Times) -> bool {
+    jitter <= deadline && deadline <= period
 }
 
 fn is_name(field: &[u8]) -> bool {

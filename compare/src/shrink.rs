@@ -1,8 +1,9 @@
-//! Making a text that shows a mismatch as small as it gets.
+//! Making a text or a table value that shows a mismatch as small as it gets.
 
+use crate::model::value::{at, Value, COUNT, PLACE};
 use std::cell::Cell;
 
-/// No more texts than this are tried.
+/// No more texts or values than this are tried.
 const TRIES: u32 = 4_000;
 
 /// The smallest text found from `text` on for which `shows` still holds.
@@ -127,21 +128,19 @@ fn reductions(field: &[u8], place: usize) -> Vec<Vec<u8>> {
     }
     match parsed(field) {
         Some(value) => {
-            let steps = (0..)
-                .map(|power| value >> power)
-                .take_while(|step| *step > 0);
-            let smaller = steps.map(|step| value - step);
-            let smaller = [0, 1]
-                .into_iter()
-                .filter(|least| *least < value)
-                .chain(smaller);
-            smaller
-                .map(|value| value.to_string().into_bytes())
-                .collect()
+            let spelled = |number: u64| number.to_string().into_bytes();
+            smaller_numbers(value).map(spelled).collect()
         }
         None if field.len() > 1 => vec![field[..1].to_vec(), field[1..].to_vec()],
         None => Vec::new(),
     }
+}
+
+fn smaller_numbers(number: u64) -> impl Iterator<Item = u64> {
+    let steps = (0..64).map(move |power| number >> power);
+    let smaller = steps.take_while(|step| *step > 0);
+    let least = [0, 1].into_iter().filter(move |least| *least < number);
+    least.chain(smaller.map(move |step| number - step))
 }
 
 fn bytes_dropped(mut text: Vec<u8>, shows: Shows) -> Vec<u8> {
@@ -179,9 +178,73 @@ fn parsed(field: &[u8]) -> Option<u64> {
     std::str::from_utf8(field).ok()?.parse().ok()
 }
 
+// ---- values
+
+/// The smallest value found from `value` on for which `shows` still holds.
+pub fn shrink_value(value: &Value, shows: &dyn Fn(&Value) -> bool) -> Value {
+    let tries = Cell::new(0);
+    let still_shows = |smaller: &Value| {
+        tries.set(tries.get() + 1);
+        tries.get() <= TRIES && shows(smaller)
+    };
+    let mut least = value.clone();
+    loop {
+        let before = least.clone();
+        least = tasks_dropped(least, &still_shows);
+        least = numbers_reduced(least, &still_shows);
+        if least == before || tries.get() > TRIES {
+            return least;
+        }
+    }
+}
+
+type ValueShows<'a> = &'a dyn Fn(&Value) -> bool;
+
+fn tasks_dropped(mut value: Value, shows: ValueShows) -> Value {
+    let mut task = 0;
+    while task < value.taken() {
+        let mut smaller = value.clone();
+        smaller.numbers.drain(at(task, 0)..at(task + 1, 0));
+        smaller.numbers.extend([0; PLACE]);
+        smaller.numbers[COUNT] -= 1;
+        if shows(&smaller) {
+            value = smaller;
+        } else {
+            task += 1;
+        }
+    }
+    value
+}
+
+fn numbers_reduced(mut value: Value, shows: ValueShows) -> Value {
+    for index in 0..value.numbers.len() {
+        let reduced = |number: u64| {
+            let mut smaller = value.clone();
+            smaller.numbers[index] = number;
+            smaller
+        };
+        let mut reduced = smaller_numbers(value.numbers[index]).map(reduced);
+        if let Some(smaller) = reduced.find(|smaller| shows(smaller)) {
+            value = smaller;
+        }
+    }
+    value
+}
+
 #[cfg(test)]
 mod tests {
     use super::*;
+    use crate::figures::table_m;
+    use crate::model::read;
+
+    #[test]
+    fn what_shows_the_mismatch_is_left_of_a_value() {
+        let value = Value::of(&read(&table_m()).expect("a valid table"));
+        let shows = |value: &Value| value.count() > 0 && value.place(0)[13] >= 30;
+        let mut expected = vec![0; value.numbers.len()];
+        (expected[COUNT], expected[at(0, 13)]) = (1, 30);
+        assert_eq!(shrink_value(&value, &shows).numbers, expected);
+    }
 
     #[test]
     fn what_shows_the_mismatch_is_left() {

@@ -1,5 +1,6 @@
 //! Prints the response of every task of a table under every method, then the report, and then why
-//! combined (method 5) answers for the last task what it does. The table is read from standard input.
+//! combined (method 5) answers for the last task what it does, and last the table itself, read and written
+//! again. The table is read from standard input.
 use std::io::{Read, Write};
 
 fn main() -> std::io::Result<()> {
@@ -24,7 +25,7 @@ fn main() -> std::io::Result<()> {
         println!();
         position += 1;
     }
-    let mut out = [0; crpd::REPORT_MOST];
+    let mut out = [0; crpd::TABLE_MOST];
     let length =
         crpd::report(&text, &mut out).expect("an accepted table has a report, and it fits");
     assert_eq!(crpd::print(&text), out[..length]);
@@ -32,5 +33,8 @@ fn main() -> std::io::Result<()> {
     let length = crpd::explain(&text, 5, position - 1, &mut out)
         .expect("an accepted table has a last task, and its explanation fits");
     assert!(length <= crpd::EXPLANATION_MOST);
+    std::io::stdout().write_all(&out[..length])?;
+    let length =
+        crpd::rewrite(&text, &mut out).expect("an accepted table comes back, and it fits");
     std::io::stdout().write_all(&out[..length])
 }

@@ -7,6 +7,9 @@ pub const REPORT_MOST: usize = 2746;
 /// No explanation is longer.
 pub const EXPLANATION_MOST: usize = 1317;
 
+/// No accepted table text is longer.
+pub const TABLE_MOST: usize = 6253;
+
 #[link(name = "crpd", kind = "static")]
 extern "C" {
     fn crpd_answer(text: *const u8, text_len: usize, method: u64, position: u64) -> u64;
@@ -19,6 +22,7 @@ extern "C" {
         out: *mut u8,
         out_len: usize,
     ) -> u64;
+    fn crpd_rewrite(text: *const u8, text_len: usize, out: *mut u8, out_len: usize) -> u64;
     fn crpd_print(text: *const u8, text_len: usize, out: *mut u8, out_len: usize) -> u64;
 }
 
@@ -58,6 +62,13 @@ pub fn report(text: &[u8], out: &mut [u8]) -> Result<usize, Refusal> {
 pub fn explain(text: &[u8], method: u64, position: u64, out: &mut [u8]) -> Result<usize, Refusal> {
     let (start, room) = (out.as_mut_ptr(), out.len());
     let written = unsafe { crpd_explain(text.as_ptr(), text.len(), method, position, start, room) };
+    told(written).map(|length| length as usize)
+}
+
+/// Reads the table, writes its text at the start of `out` and gives its length. A table has just one
+/// spelling, so of an accepted text it is the same bytes. A refused text leaves `out` as it was.
+pub fn rewrite(text: &[u8], out: &mut [u8]) -> Result<usize, Refusal> {
+    let written = unsafe { crpd_rewrite(text.as_ptr(), text.len(), out.as_mut_ptr(), out.len()) };
     told(written).map(|length| length as usize)
 }
 

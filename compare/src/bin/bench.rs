@@ -20,8 +20,11 @@ const PLAIN_TURNS: u64 = 5_000_000;
 /// The fastest of so many rounds counts.
 const ROUNDS: u32 = 40;
 
-/// Room for every report and every explanation.
-const ROOM: [u8; 2_746] = [0; 2_746];
+/// Room for every report, every explanation and every table.
+const ROOM: [u8; 6_253] = [0; 6_253];
+
+/// So often a table that was read is written, so that the reading hardly counts.
+const WRITINGS: u64 = 100;
 
 /// What the library would take longer for is left out.
 const LONGEST: Duration = Duration::from_secs(20);
@@ -142,6 +145,14 @@ fn time_tables(title: &str, texts: &[Vec<u8>], options: &Options) {
             &mut |text| plain::explain(text, method, last, &mut plain_out),
         );
     }
+    time_both(
+        "rewritten texts",
+        texts,
+        options,
+        &mut |text| library::rewrite(text, &mut out),
+        &mut |text| plain::rewrite(text, &mut plain_out),
+    );
+    time_writing(texts, options);
     time_parts(texts, options);
 }
 
@@ -166,6 +177,17 @@ fn see_same(text: &[u8]) {
         let same = codes.0 == codes.1 && out == plain_out;
         assert!(same, "the explanations differ: {}", text.escape_ascii());
     }
+    let codes = (
+        library::rewrite(text, &mut out),
+        plain::rewrite(text, &mut plain_out),
+    );
+    let same = codes.0 == codes.1 && out == plain_out && out.starts_with(text);
+    assert!(same, "the tables differ: {}", text.escape_ascii());
+    if let Some(write) = LIBRARY_WRITING {
+        out = ROOM;
+        let same = write(text, 1, &mut out) == codes.0 && out.starts_with(text);
+        assert!(same, "another table is timed: {}", text.escape_ascii());
+    }
 }
 
 /// A method and a position that differ from text to text.
@@ -175,6 +197,18 @@ fn question(text: &[u8]) -> (u64, u64) {
 }
 
 fn time_both(what: &str, texts: &[Vec<u8>], options: &Options, one: Work, other: Work) {
+    time_repeated(what, 1, texts, options, one, other);
+}
+
+/// Each call does its work `times` times.
+fn time_repeated(
+    what: &str,
+    times: u64,
+    texts: &[Vec<u8>],
+    options: &Options,
+    one: Work,
+    other: Work,
+) {
     let (mut fastest, mut fastest_plain) = (0f64, 0f64);
     // in turn, so that what else the machine does meets both
     for _ in 0..ROUNDS {
@@ -183,9 +217,9 @@ fn time_both(what: &str, texts: &[Vec<u8>], options: &Options, one: Work, other:
     }
     println!(
         "  {what:<15} {:>10.0}/s {}, {:>10.0}/s plain, ratio {:.2}",
-        fastest,
+        fastest * times as f64,
         library::NAME,
-        fastest_plain,
+        fastest_plain * times as f64,
         fastest / fastest_plain
     );
 }
@@ -204,6 +238,43 @@ fn rate(texts: &[Vec<u8>], time: Duration, work: Work) -> f64 {
     let seconds = (processor_time() - start).as_secs_f64();
     assert_ne!(sum, 1, "no work gives this");
     done as f64 / seconds
+}
+
+// ---- writing tables
+
+/// Reads a table once and writes it some times into a buffer.
+type WriteTable = fn(&[u8], u64, &mut [u8]) -> u64;
+
+#[cfg(feature = "parts")]
+const LIBRARY_WRITING: Option<WriteTable> = Some(library::parts::rewrite);
+#[cfg(not(feature = "parts"))]
+const LIBRARY_WRITING: Option<WriteTable> = None;
+
+fn time_writing(texts: &[Vec<u8>], options: &Options) {
+    match LIBRARY_WRITING {
+        Some(write) => time_written(write, texts, options),
+        None => println!("  {:<15} has no writing alone to time", library::NAME),
+    }
+}
+
+/// The plain version only spells the tables; the library also looks whether a text gives them.
+fn time_written(write: WriteTable, texts: &[Vec<u8>], options: &Options) {
+    let (mut out, mut spelled) = (ROOM, String::with_capacity(ROOM.len()));
+    time_repeated(
+        "written tables",
+        WRITINGS,
+        texts,
+        options,
+        &mut |text| write(text, WRITINGS, &mut out),
+        &mut |text| {
+            let table = plain::read(text).expect("a valid table");
+            for _ in 0..WRITINGS {
+                spelled.clear();
+                plain::spell(&table, &mut spelled).expect("memory takes every byte");
+            }
+            spelled.len() as u64
+        },
+    );
 }
 
 // ---- reading, answering and writing apart

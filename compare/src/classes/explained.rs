@@ -1,7 +1,7 @@
 //! What the explanations of the made-up texts have to reach.
 
+use super::Names;
 use crate::model::{Explanation, Interference, Outcome, FIGURE_MOST};
-use std::collections::BTreeSet;
 
 /// Of the figures of UCB-Union and ECB-Union, and the method that explains the combined one.
 type OfUnions = (&'static str, fn(Option<u64>, Option<u64>, u64) -> bool);
@@ -121,8 +121,6 @@ const REFUSED: [&str; 2] = [
     "a refusal of the text before 13",
 ];
 const REFUSED_IN_ROOMS: [&str; 1] = ["a refusal of the text before 14"];
-
-type Names = BTreeSet<String>;
 
 pub fn all() -> Names {
     let mut names: Vec<&str> = Vec::new();

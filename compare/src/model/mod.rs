@@ -1,21 +1,26 @@
 //! The independent implementation of the rules.
 //!
 //! It shares nothing with the proved code but the rules: cache sets are sorted lists of numbers,
-//! unions are asked member by member, the text is taken apart by the standard library, and a
-//! response is found by trying every number where the limit is small.
+//! unions are asked member by member, the text is taken apart by the standard library, a response
+//! is found by trying every number where the limit is small, and whether a text gives a table value
+//! is found by reading what the value spells.
 
 mod costs;
 mod explain;
 mod read;
 mod report;
 mod response;
+pub mod value;
+mod write;
 
 pub use costs::METHODS;
 pub use explain::{Explanation, Interference, FIGURE_MOST};
 pub use read::{read, Table, Task, TASKS_MOST, TEXT_MOST};
 pub use report::{analyse, Analysis, Row};
+pub use write::Writing;
 
 use explain::Explainer;
+use value::Value;
 
 /// Why something was not given: the refusal's number and the line told.
 #[derive(Clone, Copy, Debug, PartialEq, Eq, PartialOrd, Ord)]
@@ -68,6 +73,25 @@ pub enum Error {
     HitsLastOfEquals,
     /// 13: the tasks above are listed though the figure is beyond the search's end.
     ListsAfterBeyond,
+    /// 14: numbers of a written table have at least two digits.
+    PadsNumbers,
+    /// 15: the cache sets of a written table have the digits A to F.
+    UsesLargeLetters,
+    /// 16: the cache sets of a written table start from the lowest digit.
+    StartsFromLowestSets,
+    /// 17: the tasks of a written table stand from the last to the first.
+    TurnsTasksRound,
+    /// 18: the period of a written task is its deadline.
+    WritesDeadlineForPeriod,
+    /// 19: a table value is written though two of its tasks have the same name.
+    OverlooksEqualNames,
+    /// 20: a table value is written, without the mark, though it marks a set that the cache does
+    /// not have.
+    OverlooksHighMarks,
+    /// 21: a table value is written though a place past its last task is not empty.
+    OverlooksPastEnd,
+    /// 22: 14 comes before 25.
+    LooksAtRoomFirst,
 }
 
 impl Error {
@@ -87,8 +111,33 @@ impl Error {
             "11" => Some(Error::EndsAtLimit),
             "12" => Some(Error::HitsLastOfEquals),
             "13" => Some(Error::ListsAfterBeyond),
+            "14" => Some(Error::PadsNumbers),
+            "15" => Some(Error::UsesLargeLetters),
+            "16" => Some(Error::StartsFromLowestSets),
+            "17" => Some(Error::TurnsTasksRound),
+            "18" => Some(Error::WritesDeadlineForPeriod),
+            "19" => Some(Error::OverlooksEqualNames),
+            "20" => Some(Error::OverlooksHighMarks),
+            "21" => Some(Error::OverlooksPastEnd),
+            "22" => Some(Error::LooksAtRoomFirst),
             _ => None,
         }
+    }
+
+    /// Whether it is built into the writing of tables, and not into what is told about them.
+    pub fn is_of_writing(self) -> bool {
+        matches!(
+            self,
+            Error::PadsNumbers
+                | Error::UsesLargeLetters
+                | Error::StartsFromLowestSets
+                | Error::TurnsTasksRound
+                | Error::WritesDeadlineForPeriod
+                | Error::OverlooksEqualNames
+                | Error::OverlooksHighMarks
+                | Error::OverlooksPastEnd
+                | Error::LooksAtRoomFirst
+        )
     }
 }
 
@@ -157,6 +206,14 @@ impl Outcome {
     /// What the program prints if it fits into `room` bytes.
     pub fn print(&self, room: usize) -> Result<&[u8], Refusal> {
         fitting(&self.printed, room)
+    }
+
+    /// The table written again.
+    pub fn writing(&self) -> Result<Writing, Refusal> {
+        match &self.accepted {
+            Ok((table, _)) => Ok(Writing::of(&Value::of(table), self.error)),
+            Err(refusal) => Err(*refusal),
+        }
     }
 
     pub fn explanations(&self) -> Explanations<'_> {

@@ -11,21 +11,23 @@ use Rattle.demand.specs.declared.Response.{Response}
 use Rattle.demand.specs.declared.Response.the-variants as response
 use Rattle.table.specs.declared.Refusal.{Refusal}
 use Rattle.table.specs.declared.Ruling.{Ruling}
+use Rattle.table.specs.declared.Table.{Table}
 use Rattle.table.specs.declared.Ruling.the-variants as ruling
 use Rattle.table.specs.Reading.{refusal, readText}
 use Rattle.table.proofs.Told.{Told, read-told}
 use Rattle.analysis.specs.Analysis.{responseOf}
 use Rattle.delivery.specs.declared.Written.{Written}
+use Rattle.readable.specs.Tests.{isReadable}
 use Rattle.delivery.specs.declared.Written.the-variants as written
 use Rattle.delivery.specs.Delivery.{writtenOf, Delivered}
 use Rattle.crpd.specs.declared.Reply.{Reply}
 use Rattle.crpd.specs.declared.Reply.the-variants.{Within, Unschedulable, Refused}
-use Rattle.crpd.specs.Operations.{replyOf, unlessRefused, answerTo, ruledAnswer, TextWritten, taskRulingOf}
+use Rattle.crpd.specs.Operations.{replyOf, unlessRefused, answerTo, ruledAnswer, TextWritten, taskRulingOf, writeRuling}
 use Rattle.crpd.specs.Codes.{SmallRefusal, writtenCode, SmallWritten, TextCoded}
 use Rattle.crpd.proofs.Steps.{task-ruling-by, answer-by-ruling}
 
--- a number up to 14 that tells no line
-small : (n : ℕ) → n ≤ 14 → SmallRefusal (refusal n)
+-- a number up to 25 that tells no line
+small : (n : ℕ) → n ≤ 25 → SmallRefusal (refusal n)
 small n h = record { number = h; line = omega arith }
 
 told-small : (r : Refusal) → Told 16385 r → SmallRefusal r
@@ -57,6 +59,13 @@ read-small text = go (readText text .ruling) refl
 pub task-ruling-small : (text : List ℕ) (m i : ℕ) → SmallRuling (taskRulingOf text m i)
 unfolding taskRulingOf
 task-ruling-small text m i = task-ruling-by SmallRuling m i (readText text .ruling) (readText text .table .count) (small 12 (omega arith)) (refusal-small text) (small 13 (omega arith)) (λ _. tt)
+
+pub write-ruling-small : (table : Table) → SmallRuling (writeRuling table)
+write-ruling-small table = go (isReadable table)
+  where
+    go : (t : Bool) → SmallRuling (cond t ruling.Accepted (ruling.Refused (refusal 25)))
+    go true = tt
+    go false = small 25 (omega arith)
 
 reply-small : (text : List ℕ) (m i : ℕ) → SmallReply (answerTo text m i)
 reply-small text m i = rw (← answer-by-ruling text m i) (go (taskRulingOf text m i) (task-ruling-small text m i))

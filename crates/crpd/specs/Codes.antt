@@ -7,17 +7,19 @@ use mathlib.Core.List.{List}
 use Rattle.table.specs.Reading.{readText}
 use Rattle.table.specs.declared.Refusal.{Refusal}
 use Rattle.table.specs.declared.Ruling.{Ruling}
+use Rattle.table.specs.declared.Table.{Table}
+use Rattle.table_text.specs.TableText.{tableText}
 use Rattle.delivery.specs.declared.Written.{Written}
 use Rattle.delivery.specs.declared.Written.the-variants as written
 use Rattle.delivery.specs.Delivery.{writtenOf, bufferOf}
 use Rattle.crpd.specs.declared.Reply.{Reply}
 use Rattle.explanation.specs.Explanation.{explanationOf}
-use Rattle.crpd.specs.Operations.{ruledAnswer, ruledBuffer, reportIn, taskRulingOf}
+use Rattle.crpd.specs.Operations.{ruledAnswer, ruledBuffer, reportIn, taskRulingOf, writeRuling}
 use Rattle.crpd.specs.declared.Reply.the-variants.{Within, Unschedulable, Refused}
 
--- the refusals that there are: up to number 14, and lines of a text of at most 16,384 bytes
+-- the refusals that there are: up to number 25, and lines of a text of at most 16,384 bytes
 pub record SmallRefusal (r : Refusal) : Type 0 where
-  pub number : r .number ≤ 14
+  pub number : r .number ≤ 25
   pub line : r .line ≤ 16385
 
 -- 2 ^ 32 times the number, and the line
@@ -49,6 +51,14 @@ ReportCoded text = TextCoded (readText text .ruling) (reportIn (readText text .t
 -- that of an explanation
 abbrev pub ExplanationCoded : List ℕ → ℕ → ℕ → List ℕ → ℕ → List ℕ → Type 0
 ExplanationCoded text m i = TextCoded (taskRulingOf text m i) (explanationOf (readText text .table) m i)
+
+-- that of a text that is read and written again
+abbrev pub RewriteCoded : List ℕ → List ℕ → ℕ → List ℕ → Type 0
+RewriteCoded text = TextCoded (readText text .ruling) text
+
+-- that of a table that is written
+abbrev pub TableCoded : Table → List ℕ → ℕ → List ℕ → Type 0
+TableCoded table = TextCoded (writeRuling table) (tableText table)
 
 -- the number of a text that is delivered whole or refused, and the buffer
 pub record DeliveryCoded (text before : List ℕ) (code : ℕ) (after : List ℕ) : Type 0 where

@@ -17,6 +17,9 @@ use Rattle.analysis.specs.Analysis.{responseOf}
 use Rattle.delivery.specs.declared.Written.{Written}
 use Rattle.delivery.specs.declared.Written.the-variants as written
 use Rattle.report.specs.Report.{reportOf}
+use Rattle.table_text.specs.TableText.{tableText}
+use Rattle.readable.specs.Readable.{Readable}
+use Rattle.readable.specs.Tests.{isReadable}
 use Rattle.explanation.specs.Explanation.{explanationOf}
 use Rattle.delivery.specs.Delivery.{writtenOf, bufferOf}
 use Rattle.delivery.specs.Error.{errorText}
@@ -86,6 +89,28 @@ taskRulingOf text m i = taskRuling m i (readText text .ruling) (readText text .t
 -- these refusals, and then 14; never longer than 1,317 bytes
 abbrev pub TextExplained : List ℕ → ℕ → ℕ → List ℕ → Written → List ℕ → Type 0
 TextExplained text m i = TextWritten (taskRulingOf text m i) 1317 (explanationOf (readText text .table) m i)
+
+-- ---- a table that is written
+
+-- 25, telling no line, where the table does not pass the tests
+abbrev pub writeRuling : Table → Ruling
+writeRuling table = cond (isReadable table) ruling.Accepted (ruling.Refused (refusal 25))
+
+-- what 25 means: no accepted text reads as the table
+pub record MeantRuling (table : Table) (ruled : Ruling) : Type 0 where
+  pub given : Readable table → ruled ≡ ruling.Accepted
+  pub refused : (Readable table → ⊥) → ruled ≡ ruling.Refused (refusal 25)
+
+-- 25, and then 14; never longer than 6,253 bytes
+pub record TableWritten (table : Table) (before : List ℕ) (answer : Written) (after : List ℕ) : Type 0 where
+  pub meant : MeantRuling table (writeRuling table)
+  pub written : TextWritten (writeRuling table) 6253 (tableText table) before answer after
+
+-- ---- a text that is read and written again
+
+-- the text's refusals, and then 14; of an accepted text the same bytes, never more than 6,253
+abbrev pub TextRewritten : List ℕ → List ℕ → Written → List ℕ → Type 0
+TextRewritten text = TextWritten (readText text .ruling) 6253 text
 
 -- ---- what the program prints: the report, or the line of the refusal
 

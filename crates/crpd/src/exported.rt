@@ -4,12 +4,13 @@ use crate::answer;
 use crate::explain;
 use crate::print;
 use crate::report;
+use crate::rewrite;
 use delivery::Written;
 use delivery::deliver;
 use table::Refusal;
 ghost use mathlib.Core.Path.{_≡_};
 ghost use Rattle.crpd.specs.Operations.{answerTo, printed};
-ghost use Rattle.crpd.specs.Codes.{SmallRefusal, refusalCode, SmallWritten, writtenCode, answerCode, ReportCoded, ExplanationCoded, DeliveryCoded};
+ghost use Rattle.crpd.specs.Codes.{SmallRefusal, refusalCode, SmallWritten, writtenCode, answerCode, ReportCoded, ExplanationCoded, RewriteCoded, DeliveryCoded};
 
 fn refusal_code(refusal: Refusal) -> u64
     requires { ⌜ SmallRefusal refusal ⌝ }
@@ -18,7 +19,7 @@ fn refusal_code(refusal: Refusal) -> u64
     refusal.number * 4294967296 + refusal.line
 }
 
-fn written_code(written: Written) -> u64
+pub fn written_code(written: Written) -> u64
     requires { ⌜ SmallWritten written ⌝ }
     ensures { λ r. ⌜ r ≡ writtenCode written ⌝ }
 {
@@ -54,6 +55,14 @@ pub extern "C" fn crpd_explain(text: &[u8], method: u64, position: u64, out: &mu
     ensures { λ r. ⌜ ExplanationCoded (now (text .entry)) method position (now (out .entry)) r (now (out .exit)) ⌝ }
 {
     written_code(explain(text, method, position, out))
+}
+
+// The length of the text, which then stands at the start of the buffer, too.
+#[no_mangle]
+pub extern "C" fn crpd_rewrite(text: &[u8], out: &mut [u8]) -> u64
+    ensures { λ r. ⌜ RewriteCoded (now (text .entry)) (now (out .entry)) r (now (out .exit)) ⌝ }
+{
+    written_code(rewrite(text, out))
 }
 
 // The length of what the program prints, which then stands at the start of the buffer.

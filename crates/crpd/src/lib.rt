@@ -1,5 +1,5 @@
-// The public operations on a table text: one answer, its explanation, the report, and what the program prints. They take every text, number
-// and buffer, and ask nothing of their caller.
+// The public operations: of a table text one answer, its explanation, the report, what the program prints, and the text again; of a table its text.
+// They take every text, table, number and buffer, and ask nothing of their caller.
 pub mod exported;
 
 use delivery::Written;
@@ -13,7 +13,7 @@ ghost use Rattle.table.specs.Accepted.{AcceptedTable};
 ghost use Rattle.writer.specs.Wrote.{Wrote};
 ghost use Rattle.analysis.specs.Analysis.{responseOf};
 ghost use Rattle.report.specs.Reported.{Reported};
-ghost use Rattle.crpd.specs.Operations.{replyOf, taskRuling, answerTo, TextReported, TextExplained, printed};
+ghost use Rattle.crpd.specs.Operations.{replyOf, taskRuling, answerTo, TextReported, TextExplained, TableWritten, TextRewritten, printed};
 
 // What is answered of a task under a method.
 pub enum Reply {
@@ -99,6 +99,32 @@ pub fn explain(text: &[u8], method: u64, position: u64, out: &mut [u8]) -> Writt
         return Written::Refused(refusal);
     }
     explanation::explain(table, method, position as usize, out)
+}
+
+// The text of a table, for every value that a table can be, at the start of the buffer, or a refusal that leaves the buffer as it was.
+pub fn write(table: Table, out: &mut [u8]) -> Written
+    ensures { λ r. ⌜ TableWritten table (now (out .entry)) r (now (out .exit)) ⌝ }
+{
+    if !readable::is_readable(table) {
+        return Written::Refused(Refusal {
+            number: 25,
+            line: 0,
+        });
+    }
+    table_text::write(table, out)
+}
+
+// A text, read and written again, at the start of the buffer, or a refusal that leaves the buffer as it was.
+pub fn rewrite(text: &[u8], out: &mut [u8]) -> Written
+    ensures { λ r. ⌜ TextRewritten (now (text .entry)) (now (out .entry)) r (now (out .exit)) ⌝ }
+{
+    let outcome = table::read(text);
+    let ruling = outcome.ruling;
+    if let Ruling::Refused(refusal) = ruling {
+        return Written::Refused(refusal);
+    }
+    let table = outcome.table;
+    table_text::write(table, out)
 }
 
 // What the program prints, at the start of the buffer: the report, or the line of the text's refusal. The longest fits.

@@ -41,7 +41,7 @@ knows-end n names count i h =
 pub length-mapped : {X Y : Type 0} (f : X → Y) (l : List X) (n : ℕ) → length (map f l) ≡ n → length l ≡ n
 length-mapped f l n e = sym (length-map l f) ∙ e
 
-same-bytes-self : (s : List ℕ) → sameBytes s s ≡ true
+pub same-bytes-self : (s : List ℕ) → sameBytes s s ≡ true
 unfolding sameBytes
 same-bytes-self [] = refl
 same-bytes-self (b ∷ s) = rw (eq-eqb b b refl) (same-bytes-self s)

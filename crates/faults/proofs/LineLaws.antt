@@ -36,6 +36,8 @@ not-empty text e =
 
 -- line 1
 pub record HeadHolds (said : HeadLine) : Type 0 where
+  pub shaped : said .shaped ≡ true
+  pub numbered : said .numbered ≡ true
   pub sets : (4 ≤ said .sets) × (said .sets ≤ 256)
   pub by-four : said .sets % 4 ≡ 0
   pub brt : said .brt ≤ 100000
@@ -43,16 +45,25 @@ pub record HeadHolds (said : HeadLine) : Type 0 where
 pub head-holds : (said : HeadLine) → headFault said ≡ Fine → HeadHolds said
 unfolding headFault headInRange
 head-holds said e1 =
-    let e3 = fine-row _ _ _ (fine-row _ _ _ e1 .1) .1 in
+    let e2 = fine-row _ _ _ e1 .1 in
+    let e3 = fine-row _ _ _ e2 .1 in
     let sets = isWithin 4 256 (said .sets) in
     let four = eqb (said .sets % 4) 0 in
     let p = both (sets && four) (isWithin 0 100000 (said .brt)) (not-false _ (fine-row _ _ _ e3 .0)) in
     let q = both sets four (p .0) in
-    record { sets = lies 4 256 _ (q .0); by-four = eqb-true _ _ (q .1); brt = lies 0 100000 _ (p .1) .1 }
+    record {
+      shaped = not-false _ (fine-row _ _ _ e1 .0);
+      numbered = not-false _ (fine-row _ _ _ e2 .0);
+      sets = lies 4 256 _ (q .0);
+      by-four = eqb-true _ _ (q .1);
+      brt = lies 0 100000 _ (p .1) .1;
+    }
 
 -- a task line
 pub record TaskHolds (count : ℕ) (names : List Name) (said : TaskLine) : Type 0 where
   pub room : count < 32
+  pub shaped : said .shaped ≡ true
+  pub numbered : said .numbered ≡ true
   pub named : said .named ≡ true
   pub in-range : taskInRange (said .task) ≡ true
   pub marked : said .marked ≡ true
@@ -62,12 +73,16 @@ pub record TaskHolds (count : ℕ) (names : List Name) (said : TaskLine) : Type 
 pub task-holds : (count : ℕ) (names : List Name) (said : TaskLine) → taskFault count names said ≡ Fine → TaskHolds count names said
 unfolding taskFault
 task-holds count names said e1 =
-    let e3 = fine-row _ _ _ (fine-row _ _ _ e1 .1) .1 in
-    let e5 = fine-row _ _ _ (fine-row _ _ _ e3 .1) .1 in
+    let e2 = fine-row _ _ _ e1 .1 in
+    let e3 = fine-row _ _ _ e2 .1 in
+    let e4 = fine-row _ _ _ e3 .1 in
+    let e5 = fine-row _ _ _ e4 .1 in
     let e6 = fine-row _ _ _ e5 .1 in
     let e7 = fine-row _ _ _ e6 .1 in
     record {
       room = leb-false 32 count (fine-row _ _ _ e1 .0);
+      shaped = not-false _ (fine-row _ _ _ e2 .0);
+      numbered = not-false _ (fine-row _ _ _ e4 .0);
       named = not-false _ (fine-row _ _ _ e3 .0);
       in-range = not-false _ (fine-row _ _ _ e5 .0);
       marked = not-false _ (fine-row _ _ _ e6 .0);

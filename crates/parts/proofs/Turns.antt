@@ -1,4 +1,4 @@
--- A report that is written again leaves what it left the first time.
+-- A text that is written again leaves what it left the first time.
 -- Assumes nothing.
 use Prim.Native.Nat.{ℕ, zero, suc, _+_, _≤_}
 use native.Mathlib.Numerals.{add-one}
@@ -10,11 +10,9 @@ use lib.Dec.{leb}
 use lib.ListN.{length, drop, length-append}
 use lib.Seq.{drop-at}
 use borrow.Author.Tests.{le-leb, leb-true}
-use Rattle.table.specs.declared.Table.{Table}
 use Rattle.delivery.specs.declared.Written.{Written}
 use Rattle.delivery.specs.Delivery.{writtenOf, bufferOf, Delivered}
-use Rattle.crpd.specs.Operations.{reportIn}
-use Rattle.parts.specs.Parts.{turns, lengthOf, Rewritten}
+use Rattle.parts.specs.Parts.{turns, lengthOf, Repeated}
 
 -- a text is delivered again as it was the first time
 module _ (text before : List ℕ) where
@@ -34,10 +32,10 @@ module _ (text before : List ℕ) where
   delivered-again zero = (refl, refl)
   delivered-again (suc n) = once (leb (length text) (length before)) refl
 
-pub turn-more : {table : Table} {n : ℕ} {before out after : List ℕ} {len next : ℕ} {w : Written} → Rewritten table n before len out
-    → Delivered (reportIn table) out w after → next ≡ lengthOf w → Rewritten table (n + 1) before next after
-turn-more {table} {n} {before} r d is =
-    let again = delivered-again (reportIn table) before n in
+pub turn-more : {text : List ℕ} {n : ℕ} {before out after : List ℕ} {len next : ℕ} {w : Written} → Repeated text n before len out
+    → Delivered text out w after → next ≡ lengthOf w → Repeated text (n + 1) before next after
+turn-more {text} {n} {before} r d is =
+    let again = delivered-again text before n in
     record {
       len-is = rw (add-one, is, d .answer, r .buffer-is) (ap lengthOf (again .0));
       buffer-is = rw (add-one, d .buffer, r .buffer-is) (again .1);

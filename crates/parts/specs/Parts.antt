@@ -11,7 +11,7 @@ use Rattle.analysis.specs.Analysis.{responseOf}
 use Rattle.delivery.specs.declared.Written.{Written}
 use Rattle.delivery.specs.declared.Written.the-variants as written
 use Rattle.delivery.specs.Delivery.{writtenOf, bufferOf}
-use Rattle.crpd.specs.Operations.{unlessRefused, reportIn}
+use Rattle.crpd.specs.Operations.{unlessRefused}
 
 -- what is there after so many turns, each of which leaves the same
 abbrev pub turns : {A : Type 0} → ℕ → A → A → A
@@ -35,23 +35,25 @@ firstTicks table = ticksOf (responseOf table 0 0)
 abbrev pub answered : List ℕ → ℕ → ℕ
 answered text times = unlessRefused (λ _. 0) (readText text .ruling) (turns times 0 (firstTicks (readText text .table)))
 
--- ---- the report: its length, 0 where it does not fit, and the buffer
+-- ---- a text: its length, 0 where it does not fit, and the buffer
 
 abbrev pub lengthOf : Written → ℕ
 lengthOf (written.Length n) = n
 lengthOf (written.Refused r) = 0
 
-abbrev pub lengthIn : Table → List ℕ → ℕ
-lengthIn table before = lengthOf (writtenOf (reportIn table) before)
+abbrev pub lengthIn : List ℕ → List ℕ → ℕ
+lengthIn text before = lengthOf (writtenOf text before)
 
 -- the length that the last turn told, and the buffer
-pub record Rewritten (table : Table) (times : ℕ) (before : List ℕ) (len : ℕ) (after : List ℕ) : Type 0 where
-  pub len-is : len ≡ turns times 0 (lengthIn table before)
-  pub buffer-is : after ≡ turns times before (bufferOf (reportIn table) before)
+pub record Repeated (text : List ℕ) (times : ℕ) (before : List ℕ) (len : ℕ) (after : List ℕ) : Type 0 where
+  pub len-is : len ≡ turns times 0 (lengthIn text before)
+  pub buffer-is : after ≡ turns times before (bufferOf text before)
 
-abbrev pub lengthAfter : List ℕ → ℕ → List ℕ → ℕ
-lengthAfter text times before = unlessRefused (λ _. 0) (readText text .ruling) (turns times 0 (lengthIn (readText text .table) before))
+-- of a text that is made from the table that was read
+module _ (made : Table → List ℕ) where
+  abbrev pub lengthAfter : List ℕ → ℕ → List ℕ → ℕ
+  lengthAfter text times before = unlessRefused (λ _. 0) (readText text .ruling) (turns times 0 (lengthIn (made (readText text .table)) before))
 
-abbrev pub bufferAfter : List ℕ → ℕ → List ℕ → List ℕ
-bufferAfter text times before =
-    unlessRefused (λ _. before) (readText text .ruling) (turns times before (bufferOf (reportIn (readText text .table)) before))
+  abbrev pub bufferAfter : List ℕ → ℕ → List ℕ → List ℕ
+  bufferAfter text times before =
+      unlessRefused (λ _. before) (readText text .ruling) (turns times before (bufferOf (made (readText text .table)) before))

@@ -5,7 +5,10 @@ use table::Ruling;
 use table::Table;
 ghost use mathlib.Core.Path.{_≡_};
 ghost use Rattle.table.specs.Accepted.{AcceptedTable};
-ghost use Rattle.parts.specs.Parts.{turns, taskCount, ticksOf, firstTicks, answered, lengthOf, Rewritten, lengthAfter, bufferAfter};
+ghost use Rattle.table_text.specs.TableText.{tableText};
+ghost use Rattle.readable.specs.Readable.{Readable};
+ghost use Rattle.crpd.specs.Operations.{reportIn};
+ghost use Rattle.parts.specs.Parts.{turns, taskCount, ticksOf, firstTicks, answered, lengthOf, Repeated, lengthAfter, bufferAfter};
 
 fn ticks(response: Response) -> u64
     ensures { λ r. ⌜ r ≡ ticksOf response ⌝ }
@@ -42,12 +45,23 @@ fn answer(table: Table, times: u64) -> u64
 
 fn write(table: Table, times: u64, out: &mut [u8]) -> u64
     requires { ⌜ AcceptedTable table ⌝ }
-    ensures { λ r. ⌜ Rewritten table times (now (out .entry)) r (now (out .exit)) ⌝ }
+    ensures { λ r. ⌜ Repeated (reportIn table) times (now (out .entry)) r (now (out .exit)) ⌝ }
 {
     let rows = rows::responses(table);
     let mut len = 0;
     for _ in 0..times {
         len = written_len(report::report(table, rows, out));
+    }
+    len
+}
+
+fn rewrite(table: Table, times: u64, out: &mut [u8]) -> u64
+    requires { ⌜ Readable table ⌝ }
+    ensures { λ r. ⌜ Repeated (tableText table) times (now (out .entry)) r (now (out .exit)) ⌝ }
+{
+    let mut len = 0;
+    for _ in 0..times {
+        len = written_len(crpd::write(table, out));
     }
     len
 }
@@ -79,7 +93,7 @@ pub extern "C" fn bench_answers(text: &[u8], times: u64) -> u64
 // The report, written `times` over at the start of the buffer: its length, or 0 where none is written.
 #[no_mangle]
 pub extern "C" fn bench_write(text: &[u8], times: u64, out: &mut [u8]) -> u64
-    ensures { λ r. ⌜ (r ≡ lengthAfter (now (text .entry)) times (now (out .entry))) × (now (out .exit) ≡ bufferAfter (now (text .entry)) times (now (out .entry))) ⌝ }
+    ensures { λ r. ⌜ (r ≡ lengthAfter reportIn (now (text .entry)) times (now (out .entry))) × (now (out .exit) ≡ bufferAfter reportIn (now (text .entry)) times (now (out .entry))) ⌝ }
 {
     let outcome = table::read(text);
     let ruling = outcome.ruling;
@@ -88,4 +102,18 @@ pub extern "C" fn bench_write(text: &[u8], times: u64, out: &mut [u8]) -> u64
     }
     let table = outcome.table;
     write(table, times, out)
+}
+
+// The text, written `times` over from its table at the start of the buffer: its length, or 0 where none is written.
+#[no_mangle]
+pub extern "C" fn bench_rewrite(text: &[u8], times: u64, out: &mut [u8]) -> u64
+    ensures { λ r. ⌜ (r ≡ lengthAfter tableText (now (text .entry)) times (now (out .entry))) × (now (out .exit) ≡ bufferAfter tableText (now (text .entry)) times (now (out .entry))) ⌝ }
+{
+    let outcome = table::read(text);
+    let ruling = outcome.ruling;
+    if let Ruling::Refused(_) = ruling {
+        return 0;
+    }
+    let table = outcome.table;
+    rewrite(table, times, out)
 }

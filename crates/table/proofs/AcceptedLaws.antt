@@ -168,6 +168,9 @@ empty-of _ r (of-accepted table a) e = let z : _≡_ {A = ℕ} 0 1 = cc in absur
 pub accepted-table : (text : List ℕ) → readText text .ruling ≡ Accepted → AcceptedTable (readText text .table)
 accepted-table text e = accepted-of (readText text) (settled text) e
 
+pub accepted-lines : (ls : List (List ℕ)) → readLines ls .ruling ≡ Accepted → AcceptedTable (readLines ls .table)
+accepted-lines ls e = accepted-of (readLines ls) (settled-lines ls) e
+
 -- beside a refusal stands the empty table
 pub refused-empty : (text : List ℕ) (r : Refusal) → readText text .ruling ≡ Refused r → readText text .table ≡ emptyTable
 refused-empty text r e = empty-of (readText text) r (settled text) e

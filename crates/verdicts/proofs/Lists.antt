@@ -4,7 +4,7 @@ use mathlib.Core.List.{List, _++_, map, flatMap}
 use Prim.Native.Nat.{ℕ, _+_, _<_}
 use native.Mathlib.Numerals.{add-one}
 use lib.ListN.{length, take, set, getD}
-use lib.Seq.{take-suc, take-suc-set}
+use lib.Seq.{take-suc-set}
 use Rattle.demand.specs.Positions.{run, between, methods}
 use Rattle.demand.proofs.PositionLaws.{map-next, map-at, map-same}
 use Rattle.writer.proofs.Writes.{flatMap-snoc, flatMap-map}
@@ -14,10 +14,6 @@ use Rattle.writer.proofs.Writes.{flatMap-snoc, flatMap-map}
 pub flatMap-more : (f : ℕ → List ℕ) (n : ℕ) → flatMap f (between 0 n) ++ f n ≡ flatMap f (between 0 (n + 1))
 flatMap-more f n =
     rw (← flatMap-map (λ t. t) f (between 0 n), ← flatMap-map (λ t. t) f (between 0 (n + 1)), map-next f n) (sym (flatMap-snoc (λ t. t) (map f (between 0 n)) (f n)))
-
--- one element more
-pub flatMap-take : {A : Type 0} (f : A → List ℕ) (xs : List A) (i : ℕ) (d : A) → i < length xs → flatMap f (take i xs) ++ f (getD xs i d) ≡ flatMap f (take (i + 1) xs)
-flatMap-take f xs i d h = rw (add-one i, take-suc xs i d h, flatMap-snoc)
 
 -- an array that is filled from the front, by a function of the index
 pub filled-more : {A : Type 0} (f : ℕ → A) (xs : List A) (i : ℕ) (x : A) → i < length xs → x ≡ f i → take i xs ≡ map f (between 0 i) → take (i + 1) (set xs i x) ≡ map f (between 0 (i + 1))

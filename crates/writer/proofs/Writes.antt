@@ -47,6 +47,10 @@ unfolding flatMap
 flatMap-snoc f [] x = append-nil (f x)
 flatMap-snoc f (y ∷ ys) x = rw (flatMap-snoc f ys x) (sym (append-assoc (f y) (flatMap f ys) (f x)))
 
+-- the texts of the first elements, and of one element more
+pub flatMap-take : {A : Type 0} (f : A → List ℕ) (xs : List A) (i : ℕ) (d : A) → i < length xs → flatMap f (take i xs) ++ f (getD xs i d) ≡ flatMap f (take (i + 1) xs)
+flatMap-take f xs i d h = rw (add-one i, take-suc xs i d h, flatMap-snoc)
+
 pub flatMap-map : {A B : Type 0} (f : B → List ℕ) (g : A → B) (xs : List A) → flatMap f (map g xs) ≡ flatMap (λ x. f (g x)) xs
 unfolding flatMap
 flatMap-map f g [] = refl

@@ -5,14 +5,15 @@ use mathlib.Core.Path.{_≡_, refl}
 use native.Mathlib.Omega.{arith}
 use lib.ListN.{length}
 use borrow.Author.Needs.{needs}
+use Rattle.crpd.specs.Operations.{reportIn}
 use Rattle.crpd.proofs.Rows.{reportable, report-is}
-use Rattle.parts.specs.Parts.{Rewritten}
+use Rattle.parts.specs.Parts.{Repeated}
 use Rattle.parts.proofs.Turns.{turn-more}
 use Rattle.parts.proofs.write.Statement.{statement}
 use Rattle.parts.proofs.write.Tie as tie
 
 abbrev Inv-loop : tie.InvT-loop
-Inv-loop table times out₀ rows len₀ counter₀ out len counter = (counter ≤ times) × (length out ≡ length out₀) × Rewritten table counter out₀ len out
+Inv-loop table times out₀ rows len₀ counter₀ out len counter = (counter ≤ times) × (length out ≡ length out₀) × Repeated (reportIn table) counter out₀ len out
 
 abbrev μ-loop : tie.MeasureT-loop
 μ-loop table times out₀ rows len₀ counter₀ out len counter = times - counter

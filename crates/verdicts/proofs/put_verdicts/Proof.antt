@@ -10,9 +10,8 @@ use lib.ListN.{length, take, getD}
 use lib.Seq.{take-all}
 use Rattle.writer.specs.Text.{afterTab}
 use Rattle.writer.specs.Wrote.{Wrote}
-use Rattle.writer.proofs.Writes.{_then_, nothing, reading}
 use Rattle.verdicts.specs.Verdicts.{yesNo}
-use Rattle.verdicts.proofs.Lists.{flatMap-take}
+use Rattle.writer.proofs.Writes.{_then_, nothing, reading, flatMap-take}
 use Rattle.verdicts.proofs.Parts.{word-short}
 use Rattle.verdicts.proofs.put_verdicts.Statement.{statement}
 use Rattle.verdicts.proofs.put_verdicts.Tie as tie

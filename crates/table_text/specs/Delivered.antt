@@ -1,0 +1,13 @@
+-- What the writer of a table's text promises. Assumes nothing.
+use Prim.Native.Nat.{ℕ, _≤_}
+use mathlib.Core.List.{List}
+use lib.ListN.{length}
+use Rattle.table.specs.declared.Table.{Table}
+use Rattle.delivery.specs.declared.Written.{Written}
+use Rattle.delivery.specs.Delivery.{Delivered}
+use Rattle.table_text.specs.TableText.{tableText}
+
+-- the text is delivered, and it is never longer than 6,253 bytes: 13 of line 1, and 195 of each of 32 tasks
+pub record TableDelivered (table : Table) (before : List ℕ) (written : Written) (after : List ℕ) : Type 0 where
+  pub delivered : Delivered (tableText table) before written after
+  pub short : length (tableText table) ≤ 6253

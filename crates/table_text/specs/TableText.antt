@@ -1,0 +1,35 @@
+-- The text of a table, line by line and field by field, as it is read. Assumes nothing.
+use Prim.Native.Nat.{ℕ}
+use mathlib.Core.List.{List, [], _∷_, _++_, flatMap}
+use Rattle.tasks.specs.declared.Task.{Task}
+use Rattle.tasks.specs.Tasks.{nameText}
+use Rattle.table.specs.declared.Table.{Table}
+use Rattle.table.specs.Tasks.{tasksOf}
+use Rattle.writer.specs.Text.{spelled, lineOf}
+use Rattle.marks.specs.Marks.{marksText}
+
+-- line 1: `K`, the number of cache sets, BRT
+unfoldable pub headText : ℕ → ℕ → List ℕ
+headText sets brt = lineOf (75 ∷ []) (spelled sets ∷ spelled brt ∷ [])
+
+-- the times of a task: C, T, D, J, B
+abbrev pub timeTexts : Task → List (List ℕ)
+timeTexts t =
+    spelled (t .work .0)
+    ∷ spelled (t .period .0)
+    ∷ spelled (t .deadline .0)
+    ∷ spelled (t .jitter .0)
+    ∷ spelled (t .blocking .0)
+    ∷ []
+
+-- its sets: UCB, ECB
+abbrev pub setTexts : ℕ → Task → List (List ℕ)
+setTexts sets t = marksText sets (t .ucb) ∷ marksText sets (t .ecb) ∷ []
+
+-- the line of a task in a table of so many cache sets: `T`, its name, its times and its sets
+unfoldable pub taskText : ℕ → Task → List ℕ
+taskText sets t = lineOf (84 ∷ []) (nameText (t .name) ∷ timeTexts t ++ setTexts sets t)
+
+-- line 1, and a line for each task, the highest priority first
+unfoldable pub tableText : Table → List ℕ
+tableText table = headText (table .sets) (table .brt .0) ++ flatMap (taskText (table .sets)) (tasksOf table)
