@@ -69,7 +69,7 @@ in-turn (some d) k k′ l e = e d
 in-turn none k k′ l e = refl
 
 -- digits are read by themselves, from m: the number n before them moves four bits up for each
-read-cut : (x y : List ℕ) (n m : ℕ) → readHex (n + m) (x ++ y) ≡ bind (readHex m x) (λ v. readHex (n * 2 ^ (4 * length x) + v) y)
+pub read-cut : (x y : List ℕ) (n m : ℕ) → readHex (n + m) (x ++ y) ≡ bind (readHex m x) (λ v. readHex (n * 2 ^ (4 * length x) + v) y)
 unfolding readHex bind
 read-cut [] y n m = ap (λ (s : ℕ). readHex s y) (omega arith)
 read-cut (b ∷ x) y n m =

@@ -2,7 +2,7 @@
 use Prim.Native.Nat.{ℕ, zero, suc, _+_, _-_, _*_, _/_, _%_, _^_, _≤_, _<_}
 use mathlib.Core.Path.{_≡_, refl, sym, ap, ap₂, _∙_}
 use mathlib.Core.List.{List, [], _∷_, _++_, append-assoc, append-nil}
-use native.Mathlib.Nat.{add-zero, sub-zero, div-one, mul-assoc}
+use native.Mathlib.Nat.{add-zero, sub-zero, sub-add-eq, div-one, mul-assoc}
 use native.Mathlib.Numerals.{add-one}
 use native.Mathlib.Decide.{decLe}
 use native.Mathlib.Omega.{arith}
@@ -82,12 +82,6 @@ highest : (sets : ℕ) → sets ≤ 256 → bitsIn sets 3 / 4 ≡ sets / 4 - 48
 unfolding bitsIn
 highest sets few = omega arith
 
-two-words : (q : ℕ) → q - 32 ≡ q - 16 - 16
-two-words q = omega arith
-
-three-words : (q : ℕ) → q - 48 ≡ q - 32 - 16
-three-words q = omega arith
-
 pub marks-cut : (sets : ℕ) (c : CacheSet) → sets ≤ 256 → WordsInRange c
     → hexDigits (bitsIn sets 3 / 4) (c .w3) ++ hexDigits (bitsIn sets 2 / 4) (c .w2) ++ hexDigits (bitsIn sets 1 / 4) (c .w1) ++ hexDigits (bitsIn sets 0 / 4) (c .w0)
     ≡ marksText sets c
@@ -104,8 +98,8 @@ marks-cut sets c few p =
       e₁,
       e₀,
       word-cut q (q - 16) _ (c .w0) refl (p .in0),
-      word-cut (q - 16) (q - 32) _ (c .w1) (two-words q) (p .in1),
-      word-cut (q - 32) (q - 48) (c .w3) (c .w2) (three-words q) (p .in2),
+      word-cut (q - 16) (q - 32) _ (c .w1) (sub-add-eq q 16 16) (p .in1),
+      word-cut (q - 32) (q - 48) (c .w3) (c .w2) (sub-add-eq q 32 16) (p .in2),
     )
 
 pub marks-long : (sets : ℕ) (c : CacheSet) → length (marksText sets c) ≡ sets / 4

@@ -3,8 +3,8 @@ use Prim.Native.Nat.{ℕ, zero, suc, _+_, _-_, _*_, _/_, _%_, _^_, _≤_, _<_}
 use mathlib.Core.Path.{_≡_, refl, sym, ap, _∙_, subst}
 use mathlib.Core.Bool.{Bool, true, false, _&&_, cond, and-eq-true-iff}
 use mathlib.Core.List.{List, [], _∷_, _++_}
-use mathlib.Core.Option.{some, none, bind, bind-eq-some-iff}
-use native.Mathlib.Nat.{lt-of-lt-of-le, mod-lt, div-eq-of-lt, mod-eq-of-lt, zero-mul, zero-add}
+use mathlib.Core.Option.{some, none, bind}
+use native.Mathlib.Nat.{lt-of-lt-of-le, mod-lt, div-eq-of-lt, mod-eq-of-lt, sub-add-eq, zero-mul, zero-add}
 use native.Mathlib.Decide.{decLe}
 use native.Mathlib.Omega.{arith}
 use lib.Arith.{lt-one, digits-lt}
@@ -13,7 +13,7 @@ use lib.ListN.{length}
 use lib.Pow.{pow-add, pow-mono, pow-pos, shr-lt}
 use borrow.Author.Tests.{ltb-true, ltb-false, lt-ltb, le-leb, lt-leb}
 use Rattle.hex.specs.Hex.{hexDigit, readHex}
-use Rattle.hex.proofs.HexLaws.{read-lt}
+use Rattle.hex.proofs.HexLaws.{read-lt, read-cut}
 use Rattle.sets.specs.declared.CacheSet.{CacheSet}
 use Rattle.sets.specs.declared.SetField.the-variants.{Marks}
 use Rattle.sets.specs.Field.{marksSaid, readSet}
@@ -40,12 +40,9 @@ digit-read d h = go (ltb d 10) refl
         let l : 10 ≤ d = ltb-false d 10 e in
         rw (le-leb 48 (87 + d) (omega arith), lt-leb (87 + d) 57 (omega arith), le-leb 97 (87 + d) (omega arith), le-leb (87 + d) 102 (omega arith)) (ap some (omega arith))
 
-read-more : (s : List ℕ) (b d m v : ℕ) → hexDigit b ≡ some d → readHex m s ≡ some v → readHex m (s ++ (b ∷ [])) ≡ some (v * 16 + d)
+read-more : (s : List ℕ) (b d v : ℕ) → hexDigit b ≡ some d → readHex 0 s ≡ some v → readHex 0 (s ++ (b ∷ [])) ≡ some (v * 16 + d)
 unfolding readHex bind
-read-more [] b d m v e h = let q : m ≡ v = cc in rw (e, q)
-read-more (c ∷ s) b d m v e h =
-    let u = bind-eq-some-iff (hexDigit c) (λ x. readHex (m * 16 + x) s) .0 h in
-    rw (u .1) (read-more s b d (m * 16 + u .0) v e (u .2))
+read-more s b d v e h = read-cut s (b ∷ []) 0 0 ∙ rw (h, zero-mul, zero-add, e)
 
 pub digits-read : (k n : ℕ) → n < 2 ^ (4 * k) → readHex 0 (hexDigits k n) ≡ some n
 unfolding hexDigits readHex
@@ -53,7 +50,7 @@ digits-read zero n h = ap some (sym (lt-one h))
 digits-read (suc k) n h =
     let fewer : n / 16 < 2 ^ (4 * k) = shr-lt (4 * k) 4 (subst (λ (e : ℕ). n < 2 ^ e) (omega arith) h) in
     let last : n % 16 < 16 = mod-lt n (lit< tt) in
-    read-more (hexDigits k (n / 16)) (hexByte (n % 16)) (n % 16) 0 (n / 16) (digit-read (n % 16) last) (digits-read k (n / 16) fewer) ∙ ap some (omega arith)
+    read-more (hexDigits k (n / 16)) (hexByte (n % 16)) (n % 16) (n / 16) (digit-read (n % 16) last) (digits-read k (n / 16) fewer) ∙ ap some (omega arith)
 
 -- ---- marks below the number of cache sets, as words and as one number
 
@@ -111,27 +108,21 @@ fit-range sets c f = record {
 
 -- the bits of each word, as those that are left above the words below it
 module _ (sets : ℕ) where
-  two-less : sets - 64 - 64 ≡ sets - 128
-  two-less = omega arith
-
-  three-less : sets - 128 - 64 ≡ sets - 192
-  three-less = omega arith
-
   bits-w0 : bitsIn sets 0 ≡ sets - (sets - 64)
   unfolding bitsIn
   bits-w0 = omega arith
 
   bits-w1 : bitsIn sets 1 ≡ (sets - 64) - (sets - 64 - 64)
   unfolding bitsIn
-  bits-w1 = rw two-less refl
+  bits-w1 = rw (← sub-add-eq sets 64 64) refl
 
   bits-w2 : bitsIn sets 2 ≡ (sets - 64 - 64) - (sets - 64 - 64 - 64)
   unfolding bitsIn
-  bits-w2 = rw (two-less, three-less) refl
+  bits-w2 = rw (← sub-add-eq sets 64 64, ← sub-add-eq sets 128 64) refl
 
   bits-w3 : sets ≤ 256 → bitsIn sets 3 ≡ sets - 64 - 64 - 64
   unfolding bitsIn
-  bits-w3 few = rw (two-less, three-less) (omega arith)
+  bits-w3 few = rw (← sub-add-eq sets 64 64, ← sub-add-eq sets 128 64) (omega arith)
 
 fit-below : (sets : ℕ) (c : CacheSet) → sets ≤ 256 → Fit sets c → numberOf c < 2 ^ sets
 unfolding numberOf

@@ -1,9 +1,8 @@
 -- A number that is spelled is read as that number. Assumes nothing.
-use Prim.Native.Nat.{ℕ, zero, suc, _+_, _-_, _*_, _/_, _%_, _^_, _≤_, _<_}
+use Prim.Native.Nat.{ℕ, _+_, _-_, _*_, _/_, _%_, _≤_, _<_}
 use mathlib.Core.Path.{_≡_, refl, ap, _∙_}
 use mathlib.Core.Bool.{Bool, true, false, cond, not, _&&_, _||_}
 use mathlib.Core.List.{List, [], _∷_, _++_}
-use native.Mathlib.Nat.{pow-suc}
 use native.Mathlib.Decide.{decLt}
 use native.Mathlib.Omega.{arith}
 use borrow.Author.Tests.{le-leb, ne-eqb}
@@ -15,7 +14,7 @@ use Rattle.fields.specs.Bytes.{isDigit}
 use Rattle.fields.specs.Fields.{readDigits, readNumber, isNumber, isValue, valueOf, number}
 use Rattle.fields.proofs.Spelling.{number-unique}
 use Rattle.writer.specs.Text.{digitByte, spelled}
-use Rattle.writer.proofs.Spelling.{spelled-low, spelled-high, spelled-short}
+use Rattle.writer.proofs.Spelling.{spelled-low, spelled-high, spelled-short, by-digits}
 
 -- one digit more at the end
 digit-more : (s : List ℕ) (b a v : ℕ) → isDigit b ≡ true → readDigits a s ≡ Value v → readDigits a (s ++ (b ∷ [])) ≡ Value (v * 10 + (b - 48))
@@ -31,18 +30,12 @@ digit-more (c ∷ s) b a v d e = go (isDigit c) (λ h. digit-more s b (a * 10 + 
 digit-is : (d : ℕ) → d < 10 → isDigit (digitByte d) ≡ true
 digit-is d h = rw (le-leb 48 (48 + d) (omega arith), le-leb (48 + d) 57 (omega arith))
 
-digits-read : (k n : ℕ) → n < 10 ^ suc k → readDigits 0 (spelled n) ≡ Value n
+digits-read : (n : ℕ) → readDigits 0 (spelled n) ≡ Value n
 unfolding readDigits
-digits-read zero n h =
-    let l : n < 10 = omega arith in
-    rw (spelled-low n l, digit-is n l) (ap Value (omega arith))
-digits-read (suc k) n h = elim (decLt n 10) [
-  | yes l ↦ rw (spelled-low n l, digit-is n l) (ap Value (omega arith))
-  | no l ↦
-      rw (spelled-high n (omega arith))
-      (digit-more (spelled (n / 10)) (digitByte (n % 10)) 0 (n / 10) (digit-is (n % 10) (omega arith)) (digits-read k (n / 10) (omega (arith, pow-suc 10 (suc k))))
-      ∙ ap Value (omega arith))
-]
+digits-read =
+    by-digits (λ n. readDigits 0 (spelled n) ≡ Value n)
+    (λ n l. rw (spelled-low n l, digit-is n l) (ap Value (omega arith)))
+    (λ n l ih. rw (spelled-high n l) (digit-more (spelled (n / 10)) (digitByte (n % 10)) 0 (n / 10) (digit-is (n % 10) (omega arith)) ih ∙ ap Value (omega arith)))
 
 -- a number above 0 starts with another digit than 0
 record Led (n : ℕ) : Type 0 where
@@ -51,24 +44,23 @@ record Led (n : ℕ) : Type 0 where
   is : spelled n ≡ first ∷ others
   above : 48 < first
 
-leads : (k n : ℕ) → n < 10 ^ suc k → 1 ≤ n → Led n
-leads zero n h p = record { first = digitByte n; others = []; is = spelled-low n (omega arith); above = omega arith }
-leads (suc k) n h p = elim (decLt n 10) [
-  | yes l ↦ record { first = digitByte n; others = []; is = spelled-low n l; above = omega arith }
-  | no l ↦ high (leads k (n / 10) (omega (arith, pow-suc 10 (suc k))) (omega arith)) (omega arith)
-]
+leads : (n : ℕ) → 1 ≤ n → Led n
+leads =
+    by-digits (λ n. 1 ≤ n → Led n)
+    (λ n l p. record { first = digitByte n; others = []; is = spelled-low n l; above = omega arith })
+    (λ n l ih p. more n l (ih (omega arith)))
   where
-    high : Led (n / 10) → 10 ≤ n → Led n
-    high led q = record {
+    more : (n : ℕ) → 10 ≤ n → Led (n / 10) → Led n
+    more n l led = record {
       first = led .first;
       others = led .others ++ (digitByte (n % 10) ∷ []);
-      is = spelled-high n q ∙ ap (λ (s : List ℕ). s ++ (digitByte (n % 10) ∷ [])) (led .is);
+      is = spelled-high n l ∙ ap (λ (s : List ℕ). s ++ (digitByte (n % 10) ∷ [])) (led .is);
       above = led .above;
     }
 
 pub number-read : (n : ℕ) → n < 1000000000 → readNumber (spelled n) ≡ Value n
 unfolding readNumber
-number-read n h = elim (decLt n 10) [ yes l ↦ rw (spelled-low n l) (rw (← spelled-low n l) (digits-read 8 n h)) | no l ↦ high (leads 8 n h (omega arith)) ]
+number-read n h = elim (decLt n 10) [ yes l ↦ rw (spelled-low n l) (rw (← spelled-low n l) (digits-read n)) | no l ↦ high (leads n (omega arith)) ]
   where
     high : Led n
         → cond (leb 1 (length (spelled n)) && leb (length (spelled n)) 9 && (eqb (length (spelled n)) 1 || not (eqb (getD (spelled n) 0 0) 48))) (readDigits 0 (spelled n)) Bad ≡ Value n
@@ -79,8 +71,8 @@ number-read n h = elim (decLt n 10) [ yes l ↦ rw (spelled-low n l) (rw (← sp
       where
         passes : (t : Bool) → leb 1 (length (spelled n)) ≡ true → leb (length (spelled n)) 9 ≡ true → eqb (getD (spelled n) 0 0) 48 ≡ false
             → cond (leb 1 (length (spelled n)) && leb (length (spelled n)) 9 && (t || not (eqb (getD (spelled n) 0 0) 48))) (readDigits 0 (spelled n)) Bad ≡ Value n
-        passes true a b c = rw (a, b) (digits-read 8 n h)
-        passes false a b c = rw (a, b, c) (digits-read 8 n h)
+        passes true a b c = rw (a, b) (digits-read n)
+        passes false a b c = rw (a, b, c) (digits-read n)
 
 -- a field that is a number is what is written of the number
 pub number-text : (s : List ℕ) → isNumber s ≡ true → number s < 1000000000 → s ≡ spelled (number s)

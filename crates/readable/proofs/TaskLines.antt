@@ -1,10 +1,9 @@
 -- The lines that are written of a table, and what they say: a line that is not refused is what is written of what it says, and what is written says the
 -- same again. Assumes nothing.
-use Prim.Native.Nat.{ℕ, zero, suc, _+_, _/_, _%_, _^_, _≤_, _<_}
+use Prim.Native.Nat.{ℕ, zero, suc, _+_, _/_, _%_, _≤_, _<_}
 use mathlib.Core.Path.{_≡_, refl, sym, ap, ap₂, _∙_}
 use mathlib.Core.Bool.{Bool, true, false, cond, _&&_, and-eq-true-iff, false≢true}
 use mathlib.Core.List.{List, [], _∷_, _++_}
-use native.Mathlib.Nat.{pow-suc}
 use native.Mathlib.Decide.{decLt}
 use native.Mathlib.Omega.{arith}
 use borrow.Author.Tests.{eqb-true, eq-eqb, ne-eqb, lt-ltb, lt-leb}
@@ -30,7 +29,7 @@ use Rattle.faults.proofs.LineLaws.{HeadHolds, TaskHolds, ranges, order}
 use Rattle.table.specs.declared.Table.{Table}
 use Rattle.table.specs.Reading.{headTable}
 use Rattle.writer.specs.Text.{digitByte, spelled}
-use Rattle.writer.proofs.Spelling.{spelled-low, spelled-high}
+use Rattle.writer.proofs.Spelling.{spelled-low, spelled-high, by-digits}
 use Rattle.marks.specs.Marks.{hexByte, hexDigits, marksText, marksFit}
 use Rattle.marks.proofs.Fields.{marks-read, read-fits, read-text}
 use Rattle.table_text.specs.TableText.{timeTexts, setTexts}
@@ -70,18 +69,12 @@ packed-filled f h =
 
 -- ---- no field that is written holds a tab or an LF
 
-digit-plain : (k n : ℕ) → n < 10 ^ suc k → Plain (spelled n)
+pub number-plain : (n : ℕ) → Plain (spelled n)
 unfolding everyByte
-digit-plain zero n h = rw (spelled-low n (omega arith), lt-ltb 10 (48 + n) (omega arith))
-digit-plain (suc k) n h = elim (decLt n 10) [
-  | yes l ↦ rw (spelled-low n l, lt-ltb 10 (48 + n) (omega arith))
-  | no l ↦
-      rw (spelled-high n (omega arith))
-      (plain-append (spelled (n / 10)) (digitByte (n % 10) ∷ []) (digit-plain k (n / 10) (omega (arith, pow-suc 10 (suc k)))) (rw (lt-ltb 10 (48 + n % 10) (omega arith))))
-]
-
-pub number-plain : (n : ℕ) → n < 1000000000 → Plain (spelled n)
-number-plain n h = digit-plain 8 n h
+number-plain =
+    by-digits (λ n. Plain (spelled n))
+    (λ n l. rw (spelled-low n l, lt-ltb 10 (48 + n) (omega arith)))
+    (λ n l ih. rw (spelled-high n l) (plain-append (spelled (n / 10)) (digitByte (n % 10) ∷ []) ih (rw (lt-ltb 10 (48 + n % 10) (omega arith)))))
 
 hex-byte-plain : (d : ℕ) → ltb 10 (hexByte d) ≡ true
 unfolding hexByte
@@ -156,15 +149,15 @@ module _ (sets : ℕ) (t : Task) (few : sets ≤ 256) (by-four : sets % 4 ≡ 0)
         (
           name-plain _ (name-is .0),
           (
-            number-plain _ (n .0),
+            number-plain _,
             (
-              number-plain _ (n .1),
+              number-plain _,
               (
-                number-plain _ (n .2),
+                number-plain _,
                 (
-                  number-plain _ (n .3),
+                  number-plain _,
                   (
-                    number-plain _ (n .4),
+                    number-plain _,
                     (marks-plain sets (t .ucb), (marks-plain sets (t .ecb), tt)),
                   ),
                 ),
@@ -321,7 +314,7 @@ module _ (table : Table) (h : HeadHolds (headOf table)) where
 
   pub head-fields : AllPlain ((75 ∷ []) ∷ spelled (table .sets) ∷ spelled (table .brt .0) ∷ [])
   unfolding everyByte
-  head-fields = (refl, (number-plain _ (head-small .0), (number-plain _ (head-small .1), tt)))
+  head-fields = (refl, (number-plain _, (number-plain _, tt)))
 
   pub head-says : headSaid (headBytes table) ≡ headOf table
   unfolding headSaid

@@ -38,10 +38,6 @@ task-length sets t = simp length-append (omega arith)
 
 -- ---- of an accepted table
 
--- nine digits at most
-pub nine-digits : (n : ℕ) → n ≤ 250000000 → length (spelled n) ≤ 9
-nine-digits n h = spelled-short 8 n (omega arith)
-
 task-short : (sets : ℕ) (t : Task) → sets ≤ 256 → AcceptedTask sets t → length (taskText sets t) ≤ 195
 task-short sets t few a =
     omega (
@@ -49,11 +45,11 @@ task-short sets t few a =
       task-length sets t,
       times-length t,
       name-short (nameText (t .name)) (a .name),
-      nine-digits (t .work .0) (a .work .1),
-      nine-digits (t .period .0) (a .period .1),
-      nine-digits (t .deadline .0) (omega (arith, a .deadline, a .period)),
-      nine-digits (t .jitter .0) (omega (arith, a .jitter, a .deadline, a .period)),
-      nine-digits (t .blocking .0) (a .blocking),
+      spelled-short 8 (t .work .0) (omega (arith, a .work)),
+      spelled-short 8 (t .period .0) (omega (arith, a .period)),
+      spelled-short 8 (t .deadline .0) (omega (arith, a .deadline, a .period)),
+      spelled-short 8 (t .jitter .0) (omega (arith, a .jitter, a .deadline, a .period)),
+      spelled-short 8 (t .blocking .0) (omega (arith, a .blocking)),
       marks-long sets (t .ucb),
       marks-long sets (t .ecb),
     )

@@ -37,6 +37,15 @@ pub spelled-high : (n : ℕ) → 10 ≤ n → spelled n ≡ spelled (n / 10) ++ 
 unfolding spelled
 spelled-high n h = digits-high n n h ∙ rw (enough n (suc (n / 10)) (n / 10) (omega arith) (omega arith))
 
+-- what holds of one digit, and of a number where it holds of the digits before its last, holds of every number
+module _ (P : ℕ → Type 0) (low : (n : ℕ) → n < 10 → P n) (high : (n : ℕ) → 10 ≤ n → P (n / 10) → P n) where
+  below : (k n : ℕ) → n < k → P n
+  below zero n h = absurd (omega arith)
+  below (suc k) n h = elim (decLt n 10) [ yes l ↦ low n l | no l ↦ high n (omega arith) (below k (n / 10) (omega arith)) ]
+
+  pub by-digits : (n : ℕ) → P n
+  by-digits n = below (suc n) n (omega arith)
+
 -- a number below 10 ^ (k + 1) has at most k + 1 digits
 pub spelled-short : (k n : ℕ) → n < 10 ^ suc k → length (spelled n) ≤ suc k
 spelled-short zero n h = rw (spelled-low n (omega arith)) (omega arith)
