@@ -8,7 +8,7 @@ import sys
 
 # A function with a proof file is refused by an error; one that the checker proves by itself, by a note on the fact that it could not show.
 REFUSED = re.compile(r" error: |: it is not proved that ")
-UNFIT = re.compile(r"that can be named from here|has no field `|is not in scope|expected type `tie\.Need-|has no `Need-|Parse")
+UNFIT = re.compile(r"that can be named from here|has no field `|is not in scope|expected type `tie\.Need-|has no `Need-|this pattern needs a function|Parse")
 
 
 def first_refusal(log):

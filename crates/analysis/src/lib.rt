@@ -34,7 +34,7 @@ pub fn least_within(board: &[u64], method: u64, i: usize, limit: Ticks) -> Respo
     if method == 0 {
         return by_weights(board, &board[WORKS..OWNS], i, limit);
     }
-    let weights = costs::weights(board, method, i);
+    let weights = one_row::weights(board, method, i);
     by_weights(board, &weights, i, limit)
 }
 

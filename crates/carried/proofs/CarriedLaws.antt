@@ -7,7 +7,7 @@ use borrow.Author.Count.{below-more}
 use lib.ListN.{length, getD, set, length-set}
 use lib.Seq.{getD-set-same, getD-set-other}
 use Rattle.sets.specs.declared.CacheSet.{CacheSet}
-use Rattle.sets.specs.Sets.{Set, ∅, _∪_, _∩_, size}
+use Rattle.sets.specs.Sets.{Set, _∩_, size}
 use Rattle.sets.specs.Words.{members}
 use Rattle.sets.specs.Stored.{heldAt, storedAt}
 use Rattle.sets.proofs.SetLaws.{size-le}
@@ -15,16 +15,18 @@ use Rattle.sets.proofs.WordLaws.{members-empty}
 use Rattle.sets.proofs.StoredLaws.{stored-long, stored-same, stored-other, stored-beside, held-beside}
 use Rattle.tasks.specs.Tasks.{noSets}
 use Rattle.demand.specs.Positions.{hp}
-use Rattle.demand.proofs.PositionLaws.{fold-none, fold-next}
 use Rattle.board.specs.Board.{workOn, brtOn, ucbOn, ecbOn}
 use Rattle.carried.specs.declared.Gathered.{Gathered}
 use Rattle.costs.specs.declared.Hit.{Hit}
 use Rattle.costs.specs.declared.Charge.{Charge}
 use Rattle.costs.specs.Gather.{aff, unionOf, hit, largestAt}
+use Rattle.costs.specs.Listed.{hitPut}
 use Rattle.costs.specs.Costs.{noVictim, charges, reloadsIn, reloadsOf, weightOn}
+use Rattle.costs.proofs.UnionLaws.{union-none, union-next}
 use Rattle.costs.proofs.HitLaws.{hit-none, hit-next, largest-from}
+use Rattle.costs.proofs.ListedLaws.{hit-long, hit-same, hit-beside}
 use Rattle.costs.proofs.CostLaws.{hit-most}
-use Rattle.carried.specs.Carried.{Next, Carried, Small, chargesFor, countFor, aboveOn, allAt, evictingOn, mostAt, sharedAt, hitOn, hitPut, gatheredOn, gatheredPut}
+use Rattle.carried.specs.Carried.{Next, Carried, Small, chargesFor, countFor, aboveOn, allAt, evictingOn, mostAt, sharedAt, gatheredOn, gatheredPut}
 use Rattle.carried.specs.Carried.{Column, Ledger, Passing, Put, InPair}
 use Rattle.carried.proofs.PutLaws.{put-as}
 
@@ -39,7 +41,7 @@ module _ (U : ℕ → Set) (above : Set) (j : ℕ) where
   carried-none : Carried U above j (j + 1) (ungathered j)
   carried-none = record {
     most = hit-none (λ k. size (U k)) (j + 1);
-    all = members-empty ∙ sym (fold-none _∪_ ∅ U (j + 1));
+    all = members-empty ∙ union-none U (j + 1);
     shared = hit-none (λ k. size (U k ∩ above)) (j + 1);
   }
 
@@ -47,7 +49,7 @@ module _ (U : ℕ → Set) (above : Set) (j : ℕ) where
   pub carried-next : (i : ℕ) (g r : Gathered) (ucb : Set) → j < i → ucb ≡ U i → Carried U above j i g → Next g ucb above i r → Carried U above j (i + 1) r
   carried-next i g r ucb h e c n = record {
     most = n .most ∙ hit-next (λ k. size (U k)) (j + 1) i _ _ (omega arith) (c .most) (ap size e);
-    all = n .all ∙ fold-next _∪_ ∅ U (j + 1) i _ _ (omega arith) (c .all) e;
+    all = n .all ∙ union-next U (j + 1) i _ _ (omega arith) (c .all) e;
     shared = n .shared ∙ hit-next (λ k. size (U k ∩ above)) (j + 1) i _ _ (omega arith) (c .shared) (ap (λ (A : Set). size (A ∩ above)) e);
   }
 
@@ -70,22 +72,8 @@ module _ (U : ℕ → Set) (above : Set) (j : ℕ) where
 
 -- ---- what is gathered for j put in
 
--- a hit put in
+-- a hit put in after all sets
 module _ (l : List ℕ) (p : ℕ) (h : Hit) where
-  hit-long : length (hitPut l p h) ≡ length l
-  hit-long = simp length-set refl
-
-  hit-same : 32 + p < length l → hitOn (hitPut l p h) p ≡ h
-  hit-same few =
-      rw (
-        getD-set-other (set l p (h .reloads .0)) (32 + p) p (h .victim) 0 (λ z. omega arith),
-        getD-set-same l p (h .reloads .0) 0 (omega arith),
-        getD-set-same (set l p (h .reloads .0)) (32 + p) (h .victim) 0 (simp length-set few),
-      )
-
-  hit-beside : (q : ℕ) → (q ≡ p → ⊥) → (q ≡ 32 + p → ⊥) → getD (hitPut l p h) q 0 ≡ getD l q 0
-  hit-beside q m n = getD-set-other (set l p (h .reloads .0)) (32 + p) q (h .victim) 0 n ∙ getD-set-other l p q (h .reloads .0) 0 m
-
   held-before-hit : 256 ≤ p → (q : ℕ) → q < 64 → heldAt (hitPut l p h) q ≡ heldAt l q
   held-before-hit high q few =
       held-beside (set l p (h .reloads .0)) (32 + p) (h .victim) q (λ r m z. omega arith)

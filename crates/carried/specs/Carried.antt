@@ -19,10 +19,10 @@ use Rattle.sets.specs.Stored.{heldAt, storedAt, setAt}
 use Rattle.demand.specs.Positions.{between, hp}
 use Rattle.board.specs.Board.{ucbOn, ecbOn}
 use Rattle.carried.specs.declared.Gathered.{Gathered}
-use Rattle.costs.specs.declared.Hit.{Hit}
 use Rattle.costs.specs.declared.Charge.{Charge}
 use Rattle.costs.specs.declared.Charge.the-variants.{Victim}
 use Rattle.costs.specs.Gather.{unionOf, hit, largerOf, largestFrom}
+use Rattle.costs.specs.Listed.{hitOn, hitPut}
 use Rattle.costs.specs.Costs.{noVictim, reloadsIn, weightOn}
 
 -- ---- what is gathered for a task
@@ -71,13 +71,6 @@ mostAt j = 288 + j
 
 abbrev pub sharedAt : ℕ → ℕ
 sharedAt j = 352 + j
-
--- a hit at p: the count, and 32 places on the victim
-abbrev pub hitOn : List ℕ → ℕ → Hit
-hitOn ledger p = hit (getD ledger p 0) (getD ledger (32 + p) 0)
-
-abbrev pub hitPut : List ℕ → ℕ → Hit → List ℕ
-hitPut ledger p h = set (set ledger p (h .reloads .0)) (32 + p) (h .victim)
 
 abbrev pub gatheredOn : List ℕ → ℕ → Gathered
 gatheredOn ledger j = record { most = hitOn ledger (mostAt j); all = heldAt ledger (allAt j); shared = hitOn ledger (sharedAt j) }

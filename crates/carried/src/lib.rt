@@ -13,8 +13,10 @@ ghost use Prim.Native.Nat.{_+_, _*_, _<_, _≤_};
 ghost use lib.ListN.{length, set};
 ghost use Rattle.sets.specs.Sets.{size};
 ghost use Rattle.sets.specs.Words.{members};
-ghost use Rattle.board.specs.Board.{Lent};
-ghost use Rattle.carried.specs.Carried.{Next, Small, countFor, hitOn, hitPut, gatheredOn, gatheredPut, Ledger, Passing, weightAt, Put, InPair, RowWeighed};
+ghost use Rattle.demand.specs.Positions.{hp};
+ghost use Rattle.board.specs.Board.{ecbOn, Lent};
+ghost use Rattle.costs.specs.Gather.{unionOf};
+ghost use Rattle.carried.specs.Carried.{Next, Small, countFor, gatheredOn, gatheredPut, Ledger, Passing, weightAt, Put, InPair, RowWeighed};
 
 // How many numbers a ledger has.
 pub const LEDGER: usize = 416;
@@ -33,9 +35,6 @@ const LARGEST: usize = 288;
 
 // Where the largest shared sizes start.
 const SHARED: usize = 352;
-
-// How many places after a count its victim stands.
-const VICTIM: usize = 32;
 
 // What is gathered for the task at j over the positions below it, down to a row: the largest UCB, the union of the UCBs, and the most that one
 // UCB shares with the ECBs of j and all above it; the first and the last with the position that has them.
@@ -63,35 +62,15 @@ fn gather(gathered: Gathered, ucb: CacheSet, useful: Hit, above: CacheSet) -> Ga
     Gathered { most, all, shared }
 }
 
-// The hit that stands at a place of the ledger.
-fn hit_at(ledger: &[u64], place: usize) -> Hit
-    requires { ⌜ (place < 384) × (length (now ledger) ≡ 416) ⌝ }
-    ensures { λ r. ⌜ r ≡ hitOn (now (ledger .entry)) place ⌝ }
-{
-    Hit {
-        reloads: Reloads(ledger[place]),
-        victim: ledger[VICTIM + place] as usize,
-    }
-}
-
-// Puts a hit in at a place.
-fn keep_hit(ledger: &mut [u64; LEDGER], place: usize, hit: Hit)
-    requires { ⌜ (place < 384) × (length (now ledger) ≡ 416) ⌝ }
-    ensures { λ _. ⌜ now (ledger .exit) ≡ hitPut (now (ledger .entry)) place hit ⌝ }
-{
-    ledger[place] = hit.reloads.0;
-    ledger[VICTIM + place] = hit.victim as u64;
-}
-
 // What the ledger has gathered for the task at j.
 fn gathered_for(ledger: &[u64], j: usize) -> Gathered
     requires { ⌜ (j < 32) × (length (now ledger) ≡ 416) ⌝ }
     ensures { λ r. ⌜ r ≡ gatheredOn (now (ledger .entry)) j ⌝ }
 {
     Gathered {
-        most: hit_at(ledger, LARGEST + j),
+        most: costs::hit_at(ledger, LARGEST + j),
         all: CacheSet::at(ledger, ALL + j),
-        shared: hit_at(ledger, SHARED + j),
+        shared: costs::hit_at(ledger, SHARED + j),
     }
 }
 
@@ -100,9 +79,9 @@ fn keep(ledger: &mut [u64; LEDGER], j: usize, gathered: Gathered)
     requires { ⌜ (j < 32) × (length (now ledger) ≡ 416) ⌝ }
     ensures { λ _. ⌜ now (ledger .exit) ≡ gatheredPut (now (ledger .entry)) j gathered ⌝ }
 {
-    keep_hit(ledger, LARGEST + j, gathered.most);
+    costs::keep_hit(ledger, LARGEST + j, gathered.most);
     gathered.all.store(ledger, ALL + j);
-    keep_hit(ledger, SHARED + j, gathered.shared);
+    costs::keep_hit(ledger, SHARED + j, gathered.shared);
 }
 
 // Puts in the weight of j under a method: `work` ticks and `n` reloads.
@@ -135,12 +114,24 @@ fn put_pair(
     put(weights, 4, j, work, gathered.shared.reloads, brt);
 }
 
+// The union of the ECBs down to that of the task at i: the one in the column above, with one set more.
+fn ecbs_down_to(board: &[u64], i: usize, ledger: &[u64]) -> CacheSet
+    requires { ⌜ Lent (now board) (i + 1) × Passing (now board) i i (now ledger) ⌝ }
+    ensures { λ r. ⌜ members r ≡ unionOf (ecbOn (now (board .entry))) (hp (i + 1)) ⌝ }
+{
+    let own = CacheSet::at(board, ECBS + i);
+    if i == 0 {
+        return own;
+    }
+    CacheSet::at(ledger, i - 1).union(own)
+}
+
 // Adds the column of the task at i, below all that have one: the union of the ECBs down to its own, the size of its own, and nothing gathered.
 fn add_column(board: &[u64], i: usize, ledger: &mut [u64; LEDGER])
     requires { ⌜ Lent (now board) (i + 1) × Passing (now board) i i (now ledger) ⌝ }
     ensures { λ _. ⌜ Ledger (now (board .entry)) (i + 1) (now (ledger .exit)) ⌝ }
 {
-    costs::union_over(board, ECBS, 0, i + 1).store(ledger, i);
+    ecbs_down_to(board, i, ledger).store(ledger, i);
     ledger[EVICTING + i] = CacheSet::at(board, ECBS + i).size().0;
     let none = Hit::none(i + 1);
     keep(

@@ -2,14 +2,14 @@
 use Prim.Native.Nat.{ℕ, zero, suc, _+_, _-_, _≤_, _<_, max}
 use native.Mathlib.Nat.{le-antisymm, lt-of-not-le}
 use native.Mathlib.Omega.{arith}
-use mathlib.Core.Path.{_≡_, refl, sym, ap, ap₂}
+use mathlib.Core.Path.{_≡_, refl, sym, ap, ap₂, _∙_}
 use mathlib.Core.Bool.{Bool, true, false, cond}
 use mathlib.Core.List.{List}
 use lib.Dec.{ltb}
 use borrow.Author.Count.{below-more}
 use borrow.Author.Tests.{ltb-true, ltb-false}
 use Rattle.demand.specs.Positions.{between}
-use Rattle.demand.proofs.PositionLaws.{between-first, fold-none, fold-next, fold-part}
+use Rattle.demand.proofs.PositionLaws.{between-first, fold-none, fold-next, fold-front, fold-part}
 use Rattle.costs.specs.declared.Hit.{Hit}
 use Rattle.costs.specs.Gather.{largestOf, hit, largerOf, largestFrom, largestAt, FirstLargest}
 
@@ -21,6 +21,20 @@ larger-by P a b second first = go (ltb (a .reloads .0) (b .reloads .0)) refl
     go true e = second (ltb-true _ _ e)
     go false e = first (ltb-false _ _ e)
 
+-- which of two is the larger
+larger-first : (a b : Hit) → b .reloads .0 ≤ a .reloads .0 → largerOf a b ≡ a
+larger-first a b l = larger-by (λ h. h ≡ a) a b (λ less. absurd (omega arith)) (λ _. refl)
+
+larger-second : (a b : Hit) → a .reloads .0 < b .reloads .0 → largerOf a b ≡ b
+larger-second a b l = larger-by (λ h. h ≡ b) a b (λ _. refl) (λ least. absurd (omega arith))
+
+-- of three it does not matter which two are compared first
+larger-assoc : (a b c : Hit) → largerOf (largerOf a b) c ≡ largerOf a (largerOf b c)
+larger-assoc a b c =
+    larger-by (λ h. largerOf h c ≡ largerOf a (largerOf b c)) a b
+    (λ l. sym (larger-second a (largerOf b c) (larger-by (λ h. a .reloads .0 < h .reloads .0) b c (λ m. omega arith) (λ m. l))))
+    (λ l. larger-by (λ h. largerOf a c ≡ largerOf a h) b c (λ m. refl) (λ m. larger-first a c (omega arith) ∙ sym (larger-first a b l)))
+
 -- the count of the pair is the largest value, over any positions
 pub largest-count : (p : ℕ) (F : ℕ → ℕ) (ks : List ℕ) → largestFrom p F ks .reloads .0 ≡ largestOf F ks
 largest-count p F ks =
@@ -31,6 +45,15 @@ largest-count p F ks =
 pub hit-grows : (p q : ℕ) (F G : ℕ → ℕ) (ks ls : List ℕ) → largestOf F ks ≤ largestOf G ls
     → largestFrom p F ks .reloads .0 ≤ largestFrom q G ls .reloads .0
 hit-grows p q F G ks ls h = rw (largest-count p F ks, largest-count q G ls) h
+
+-- a loop over the positions up to the first: one more in front
+pub hit-front : (F : ℕ → ℕ) (k to : ℕ) (below : Hit) (n : ℕ) → k < to → n ≡ F k → below ≡ largestFrom (k + 1) F (between (k + 1) to)
+    → largerOf (hit n k) below ≡ largestFrom k F (between k to)
+hit-front F k to below n h e f =
+    fold-front largerOf larger-assoc (hit 0 (k + 1)) (hit 0 k) (λ k. hit (F k) k) k to (hit n k) below h
+    (larger-by (λ h. h ≡ hit (F k) k) (hit 0 k) (hit (F k) k) (λ l. refl) (λ l. ap (λ (n : ℕ). hit n k) (omega arith))
+    ∙ sym (larger-first (hit (F k) k) (hit 0 (k + 1)) (omega arith)))
+    (ap (λ (n : ℕ). hit n k) e) f
 
 module _ (F : ℕ → ℕ) (from : ℕ) where
   -- a loop over the positions from `from` on: before the first, and at one more

@@ -60,6 +60,19 @@ run-first a (suc n) d = List·getD-append (run a (suc n)) ((a + suc n) ∷ []) d
 pub between-first : (a b d : ℕ) → a < b → getD (between a b) 0 d ≡ a
 between-first a b d h = let e : b - a ≡ suc (b - a - 1) = omega arith in rw e (run-first a (b - a - 1) d)
 
+-- the first, and then the others
+run-cons : (a n : ℕ) → run a (suc n) ≡ a ∷ run (a + 1) n
+unfolding run
+run-cons a zero = let e : a + 0 ≡ a = omega arith in rw e
+run-cons a (suc n) =
+    let e : a + suc n ≡ a + 1 + n = omega arith in
+    ap₂ (λ (ks : List ℕ) (k : ℕ). ks ++ (k ∷ [])) (run-cons a n) e
+
+between-front : (a b : ℕ) → a < b → between a b ≡ a ∷ between (a + 1) b
+between-front a b h =
+    let e : b - a ≡ suc (b - (a + 1)) = omega arith in
+    ap (run a) e ∙ run-cons a (b - (a + 1))
+
 module _ {B : Type 0} (op : B → B → B) where
   fold-snoc : (z : B) (F : ℕ → B) (ks : List ℕ) (k : ℕ) → fold op z F (ks ++ (k ∷ [])) ≡ op (fold op z F ks) (F k)
   unfolding fold
@@ -80,6 +93,22 @@ module _ {B : Type 0} (op : B → B → B) (z : B) (F : ℕ → B) (from : ℕ) 
       → op so-far it ≡ fold op z F (between from (k + 1))
   fold-next k so-far it h e f =
       ap₂ op e f ∙ sym (ap (fold op z F) (between-next from k h) ∙ fold-snoc op z F (between from k) k)
+
+-- a loop that gathers from the last position up to the first: one more in front, where the grouping does not matter. A start before the first is one after it
+module _ {B : Type 0} (op : B → B → B) (assoc : (a b c : B) → op (op a b) c ≡ op a (op b c)) where
+  fold-in-front : (x z : B) (F : ℕ → B) (ks : List ℕ) → fold op (op x z) F ks ≡ op x (fold op z F ks)
+  unfolding fold
+  fold-in-front x z F [] = refl
+  fold-in-front x z F (k ∷ ks) = ap (λ (b : B). fold op b F ks) (assoc x z (F k)) ∙ fold-in-front x (op z (F k)) F ks
+
+  pub fold-front : (y z : B) (F : ℕ → B) (k to : ℕ) (it below : B) → k < to → op z (F k) ≡ op (F k) y → it ≡ F k
+      → below ≡ fold op y F (between (k + 1) to) → op it below ≡ fold op z F (between k to)
+  unfolding fold
+  fold-front y z F k to it below h e f g =
+      ap₂ op f g
+      ∙ sym (fold-in-front (F k) y F (between (k + 1) to))
+      ∙ ap (λ (b : B). fold op b F (between (k + 1) to)) (sym e)
+      ∙ ap (fold op z F) (sym (between-front k to h))
 
 -- only what stands at the positions counts
 pub fold-same : {B : Type 0} (op : B → B → B) (z : B) (F G : ℕ → B) (a n : ℕ) → ((k : ℕ) → a ≤ k → k < a + n → F k ≡ G k)

@@ -158,9 +158,10 @@ fn put_reason_lines(
     requires { ⌜ (from + 43 * i ≤ length (now out)) × (r ≤ 250000000) × Grounds table (now board) method i ⌝ }
     ensures { λ e. ⌜ Wrote (now (out .entry)) from (flatMap (λ j. reasonLine (nameAt table) r (at table j) (chargeAt table method i j)) (hp i)) (now (out .exit)) e × (e ≤ from + 43 * i) ⌝ }
 {
+    let row = one_row::charged(board, method, i);
     let mut next = from;
     for j in 0..i {
-        let charge = costs::reloads(board, method, i, j);
+        let charge = one_row::charge_at(&row, method, j);
         let k = victim_of(charge, j);
         let task = table.tasks[j];
         let hit = table.tasks[k];

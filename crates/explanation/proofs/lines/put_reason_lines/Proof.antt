@@ -1,7 +1,7 @@
 -- `explanation::lines::put_reason_lines` meets its contract. The loop's invariant: the lines of the tasks above j are written, in at most 43 bytes each.
 -- Assumes nothing.
-use Prim.Native.Nat.{ℕ, _+_, _*_, _-_, _≤_, _<_}
-use mathlib.Core.Path.{_≡_, refl, ap, _∙_}
+use Prim.Native.Nat.{ℕ, _+_, _*_, _-_, _≤_, _<_, zero-le}
+use mathlib.Core.Path.{_≡_, refl, sym, ap, _∙_}
 use mathlib.Core.List.{flatMap}
 use native.Mathlib.Omega.{arith}
 use borrow.Author.Needs.{needs}
@@ -21,34 +21,41 @@ use Rattle.explanation.proofs.lines.put_reason_lines.Statement.{stateme
 use Rattle.explanation.proofs.lines.put_reason_lines.Tie as tie
 
 abbrev Inv-loop : tie.InvT-loop
-Inv-loop out₀ from board method i r table next₀ j₀ out next j =
+Inv-loop out₀ from board method i r table row next₀ j₀ out next j =
     Wrote out₀ from (flatMap (λ k. reasonLine (nameAt table) r (at table k) (chargeAt table method i k)) (between 0 j)) out next
     × (next ≤ from + 43 * j) × (j ≤ i) × (length out ≡ length out₀)
 
 abbrev μ-loop : tie.MeasureT-loop
-μ-loop out₀ from board method i r table next₀ j₀ out next j = i - j
+μ-loop out₀ from board method i r table row next₀ j₀ out next j = i - j
 
 loop-holds : tie.Need-loop-holds Inv-loop μ-loop
 unfolding run flatMap
 loop-holds c = (nothing _ _, omega arith, omega arith, refl)
 
-reloads-requires : tie.Need-reloads-requires Inv-loop μ-loop
-reloads-requires c κs =
-    let s = c .before .before .before .before in
+charged-requires : tie.Need-charged-requires Inv-loop μ-loop
+charged-requires c κs =
+    let s = c .before .before in
     let g = s .pre .2 in
-    (g .asked .method, omega arith, record { table = s .args .t3; accepted = g .asked .accepted; held = omega (arith, g .asked .held); board-of = g .board-of })
+    (g .asked .method, record { table = s .args .t3; accepted = g .asked .accepted; held = omega (arith, g .asked .held); board-of = g .board-of })
+
+charge-at-requires : tie.Need-charge-at-requires Inv-loop μ-loop
+charge-at-requires c κs =
+    let made = c .before .before .before in
+    let asked = made .before .before .before .pre .2 .asked in
+    omega (arith, made .charged .ensures .long, asked .held, asked .accepted .few)
 
 -- the charge is the table's, and its victim is one of the table's tasks
 module _ (c : tie.After-victim-of Inv-loop μ-loop) where
   abbrev start : tie.Start Inv-loop μ-loop
-  start = c .before .before .before .before .before .before
+  start = c .before .before .before .before .before .before .before .before
 
   abbrev j : ℕ
-  j = c .before .before .before .loop .j
+  j = c .before .before .before .before .loop .j
 
-  charge-at : c .before .reloads .result ≡ chargeAt (start .args .t3) (start .args .method) (start .args .i) j
+  charge-at : c .before .charge-at .result ≡ chargeAt (start .args .t3) (start .args .method) (start .args .i) j
   charge-at =
-      c .before .reloads .ensures
+      c .before .charge-at .ensures
+      ∙ c .before .before .before .before .before .charged .ensures .each j zero-le (omega arith)
       ∙ charge-is (start .args .t3) (start .args .i + 1) (start .args .board .now) (start .pre .2 .board-of) (start .args .method) (start .args .i) j (omega arith) (omega arith)
 
   held : c .victim-of .result < start .args .t3 .count
@@ -59,14 +66,14 @@ module _ (c : tie.After-victim-of Inv-loop μ-loop) where
   few : start .args .t3 .count ≤ 32
   few = start .pre .2 .asked .accepted .few
 
-  reloads-few : reloadsIn (c .before .reloads .result) ≤ 2048
+  reloads-few : reloadsIn (c .before .charge-at .result) ≤ 2048
   unfolding reloadsOf
   reloads-few = rw charge-at (reloads-most (ucbOf (start .args .t3)) (ecbOf (start .args .t3)) (start .args .i) j (start .args .method))
 
 put-reason-line-requires : tie.Need-put-reason-line-requires Inv-loop μ-loop
 put-reason-line-requires c κs =
     let v = c .before .before .before .before in
-    let s = v .before .before .before .before .before .before in
+    let s = start v in
     let g = s .pre .2 in
     (omega arith, s .pre .1, task-timed (s .args .t3) (j v) (omega (arith, g .asked .held)) (g .asked .accepted), reloads-few v)
 
@@ -74,9 +81,9 @@ loop-again : tie.Need-loop-again Inv-loop μ-loop
 loop-again c =
     let wrote = c .before .before .put-reason-line in
     let v = c .before .before .before .before .before .before .before in
-    let at-loop = v .before .before .before in
+    let at-loop = v .before .before .before .before in
     let a = start v .args in
-    let line = reason-line-is (a .t3) (a .r) (j v) (j v) _ _ (v .before .reloads .result) _
+    let line = reason-line-is (a .t3) (a .r) (j v) (j v) _ _ (v .before .charge-at .result) _
     (task-at (a .t3) (j v) (omega (arith, start v .pre .2 .asked .held)))
     (charge-at v)
     (task-at (a .t3) (v .victim-of .result) (held v) ∙ ap (at (a .t3)) (v .victim-of .ensures))
@@ -91,7 +98,7 @@ loop-again c =
 returns : tie.Need-returns Inv-loop μ-loop
 returns c =
     let at-loop = c .before in
-    let s = at-loop .before .before .before in
+    let s = at-loop .before .before .before .before in
     let done : at-loop .loop .j ≡ s .args .i = omega arith in
     (rw done at (at-loop .loop .inv .0), omega arith)
 
@@ -101,8 +108,10 @@ put-reason-lines-spec =
     (tie.spec
     Inv-loop
     μ-loop
+    charged-requires
     loop-holds
-    reloads-requires
+    (λ c. sym (c .before .before .before .charged .ensures .long))
+    charge-at-requires
     (λ c κs. search needs)
     (λ c. search needs)
     (λ c. omega (arith, few c, start c .pre .2 .asked .held))
