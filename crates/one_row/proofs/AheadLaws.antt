@@ -114,10 +114,10 @@ module _ (F : ℕ → ℕ) (from to : ℕ) where
 
 -- ---- the bounds
 
-module _ {F : ℕ → ℕ} {n : ℕ} {bounds : List ℕ} (p : AtMost F n bounds) where
+module _ {F : ℕ → ℕ} {bounds : List ℕ} (p : AtMost F bounds) where
   -- one that was looked at
-  pub bound-put : (k v : ℕ) → n ≤ 32 → v ≡ F k → AtMost F n (set bounds k v)
-  bound-put k v few e = record {
+  pub bound-put : (k v : ℕ) → v ≡ F k → AtMost F (set bounds k v)
+  bound-put k v e = record {
     long = simp length-set (p .long);
     each = λ l h. elim (ℕ-discrete l k) [
       | yes s ↦ rw (s, getD-set-same bounds k v 0 (omega (arith, p .long))) (omega arith)
@@ -126,5 +126,5 @@ module _ {F : ℕ → ℕ} {n : ℕ} {bounds : List ℕ} (p : AtMost F n bounds)
   }
 
   -- they bound what is smaller everywhere, too
-  pub bound-less : (G : ℕ → ℕ) → ((k : ℕ) → k < n → G k ≤ F k) → AtMost G n bounds
-  bound-less G h = record { long = p .long; each = λ k l. omega (arith, h k l, p .each k l) }
+  pub bound-less : (G : ℕ → ℕ) → ((k : ℕ) → G k ≤ F k) → AtMost G bounds
+  bound-less G h = record { long = p .long; each = λ k l. omega (arith, h k, p .each k l) }

@@ -27,7 +27,7 @@ pub record Evicted (board : List ℕ) (i j : ℕ) (row bounds : List ℕ) (likel
   pub charged : Charged board 4 i j row
   pub from-on : j ≤ likely
   pub below : likely < i + 1
-  pub bounded : AtMost (sharedOn board (unionOf (ecbOn board) (hp j))) (i + 1) bounds
+  pub bounded : AtMost (sharedOn board (unionOf (ecbOn board) (hp j))) bounds
 
 module _ {board : List ℕ} (i : ℕ) (few : i < 32) where
   -- no UCB has more than all cache sets
@@ -37,18 +37,18 @@ module _ {board : List ℕ} (i : ℕ) (few : i < 32) where
     charged = charged-none 4 i long;
     from-on = omega arith;
     below = omega arith;
-    bounded = record { long = refl; each = λ k l. rw (getD-replicate {A = ℕ} 32 k 256 0 (omega arith)) (size-le _) };
+    bounded = record { long = refl; each = λ k l. rw (getD-replicate {A = ℕ} 32 k 256 0 l) (size-le _) };
   }
 
   module _ {row bounds : List ℕ} {likely : ℕ} (from j : ℕ) (next : from ≡ j + 1) (p : Evicted board i from row bounds likely)
       (ecbs : Set) (down : ecbs ≡ unionOf (ecbOn board) (hp (j + 1))) where
     -- what the search is told
-    pub evicted-bounds : AtMost (sharedOn board ecbs) (i + 1) bounds
+    pub evicted-bounds : AtMost (sharedOn board ecbs) bounds
     evicted-bounds = rw down (rw next at (p .bounded))
 
     -- and what it leaves
     pub evicted-next : {after : List ℕ} (shared : Hit) → shared ≡ largestAt (sharedOn board ecbs) (between from (i + 1))
-        → AtMost (sharedOn board ecbs) (i + 1) after → Evicted board i j (hitPut row j shared) after (shared .victim)
+        → AtMost (sharedOn board ecbs) after → Evicted board i j (hitPut row j shared) after (shared .victim)
     evicted-next shared found bounds =
         let some : j < i = omega (arith, p .above) in
         let largest = rw (next, down) at found in
@@ -60,5 +60,5 @@ module _ {board : List ℕ} (i : ℕ) (few : i < 32) where
           from-on = omega (arith, victim .from-on);
           below = victim .below;
           bounded = bound-less (rw down at bounds) (sharedOn board (unionOf (ecbOn board) (hp j)))
-              (λ k l. size-inter-mono _ _ _ _ (λ s h. h) (union-more (ecbOn board) 0 j (omega arith)));
+              (λ k. size-inter-mono _ _ _ _ (λ s h. h) (union-more (ecbOn board) 0 j (omega arith)));
         }

@@ -13,10 +13,10 @@ use Rattle.costs.specs.declared.Hit.{Hit}
 abbrev pub sharedOn : List ℕ → Set → ℕ → ℕ
 sharedOn board ecbs k = size (ucbOn board k ∩ ecbs)
 
--- no value at the positions below n is above the number that stands there
-pub record AtMost (F : ℕ → ℕ) (n : ℕ) (bounds : List ℕ) : Type 0 where
+-- no value is above the number that stands at its position
+pub record AtMost (F : ℕ → ℕ) (bounds : List ℕ) : Type 0 where
   pub long : length bounds ≡ 32
-  pub each : (k : ℕ) → k < n → F k ≤ getD bounds k 0
+  pub each : (k : ℕ) → k < 32 → F k ≤ getD bounds k 0
 
 -- whether the first of two hits is the larger, or as large and of higher priority
 abbrev pub isAhead : Hit → Hit → Bool

@@ -4,6 +4,7 @@ use native.Mathlib.Omega.{arith}
 use mathlib.Core.Path.{_≡_}
 use borrow.Author.Needs.{needs}
 use Rattle.sets.specs.Words.{members}
+use Rattle.board.proofs.LentLaws.{lent-few, lent-long}
 use Rattle.one_row.specs.Shared.{sharedOn, AtMost}
 use Rattle.one_row.proofs.AheadLaws.{Leads, leads-one, leads-next, leads-all}
 use Rattle.one_row.proofs.search.largest_shared.Statement.{statement}
@@ -11,7 +12,7 @@ use Rattle.one_row.proofs.search.largest_shared.Tie as tie
 
 abbrev Inv-loop : tie.InvT-loop
 Inv-loop board from to ecbs likely bounds₀ best₀ k₀ bounds best k =
-    (from ≤ k) × (k ≤ to) × Leads (sharedOn board (members ecbs)) from to k best × AtMost (sharedOn board (members ecbs)) to bounds
+    (from ≤ k) × (k ≤ to) × Leads (sharedOn board (members ecbs)) from to k best × AtMost (sharedOn board (members ecbs)) bounds
 
 abbrev μ-loop : tie.MeasureT-loop
 μ-loop board from to ecbs likely bounds₀ best₀ k₀ bounds best k = to - k
@@ -53,9 +54,9 @@ largest-shared-spec =
     Inv-loop
     μ-loop
     (λ c κs. search needs)
-    (λ c κs. let p = c .before .before .before .pre in (p .1, p .2, p .3))
+    (λ c κs. let p = c .before .before .before .pre in (omega (arith, lent-few (p .2)), lent-long (p .2), p .3))
     loop-holds
-    (λ c κs. let h = c .before .before in (omega arith, h .before .before .before .before .before .pre .2, h .loop .inv .3))
+    (λ c κs. let h = c .before .before in let p = h .before .before .before .before .before .pre .2 in (omega (arith, lent-few p), lent-long p, h .loop .inv .3))
     (λ c. omega arith)
     (λ c. omega arith)
     loop-again

@@ -9,7 +9,6 @@ use lib.ListN.{set}
 use Rattle.sets.specs.declared.CacheSet.{CacheSet}
 use Rattle.sets.specs.Sets.{_∩_, size}
 use Rattle.sets.specs.Words.{members}
-use Rattle.board.proofs.LentLaws.{lent-few, lent-long}
 use Rattle.costs.specs.Gather.{hit}
 use Rattle.one_row.specs.Shared.{sharedOn, AtMost, aheadOf}
 use Rattle.one_row.proofs.AheadLaws.{ahead-is, ahead-passed, bound-put}
@@ -42,23 +41,23 @@ module _ (c : tie.After-is-ahead2) where
       ahead-is (start .args .best) _ t (sym (c .is-ahead2 .ensures) ∙ e)
       ∙ ap (λ (n : ℕ). aheadOf (start .args .best) (hit n (start .args .k))) looked
 
-  bounded : AtMost shared (start .args .to) (set (start .args .bounds .now) (start .args .k) (c .before .size .result .0))
-  bounded = bound-put (start .pre .2) (start .args .k) _ (lent-few (start .pre .1)) looked
+  bounded : AtMost shared (set (start .args .bounds .now) (start .args .k) (c .before .size .result .0))
+  bounded = bound-put (start .pre .2) (start .args .k) _ looked
 
 pub look-at-spec : {M : Type 1} → statement M
 look-at-spec =
     tie.close
     (tie.spec
-    (λ c. let s = c .before in omega (arith, lent-few (s .pre .1)))
-    (λ c. let s = c .before in omega (arith, lent-few (s .pre .1), s .pre .2 .long))
+    (λ c. search needs)
+    (λ c. let s = c .before in omega (arith, s .pre .2 .long))
     (λ c κs. search needs)
     returns
-    (λ c. omega (arith, lent-few (c .before .before .before .before .pre .1)))
-    (λ c κs. let p = c .before .before .before .before .pre .1 in omega (arith, lent-few p, lent-long p))
+    (λ c. search needs)
     (λ c κs. search needs)
     (λ c κs. search needs)
-    (λ c. omega (arith, lent-few (c .before .before .before .before .before .before .before .pre .1)))
-    (λ c. let s = c .before .before .before .before .before .before .before in omega (arith, lent-few (s .pre .1), s .pre .2 .long))
+    (λ c κs. search needs)
+    (λ c. search needs)
+    (λ c. let s = c .before .before .before .before .before .before .before in omega (arith, s .pre .2 .long))
     (λ c κs. search needs)
     (λ c. (taken (c .before) true (c .if2 .taken), bounded (c .before)))
     (λ c. (taken (c .before) false (c .if2 .left), bounded (c .before))))
