@@ -64,16 +64,19 @@ find_error() {
     fi
 }
 
-for error in 1 2 3 4 5 5b 6; do
+for error in 1 2 3 4 5 5b 6 23 24 25 26 27 28 29 30 31 32 33 34 35 36 46 47 48; do
     find_error 'valid texts' "$error"
 done
-for error in 7 8 9 10 11 12 13; do
+for error in 7 8 9 10 11 12 13 37 38 39 40 41 53; do
     find_error explanations "$error"
 done
-for error in 14 15 16 17 18; do
+for error in 42 43 44 45; do
+    find_error 'texts spoiled for a known reason' "$error"
+done
+for error in 14 15 16 17 18 49; do
     find_error 'tables written again' "$error"
 done
-for error in 19 20 21; do
+for error in 19 20 21 50 51 52; do
     find_error 'table values' "$error"
 done
 find_error 'table values into buffers of every length' 22

@@ -1,7 +1,9 @@
 /* Worst-case response times of the tasks of a table text, by the proved library (rt staticlib crpd).
  *
  * Every function takes every text, number and buffer, and answers one number. Below 2^32 it is the
- * answer; from 2^32 on it is a refusal, whose number and line the functions at the end take out.
+ * answer; from 2^32 on it is a refusal, whose number and line the functions at the end take out. The
+ * refusals of a text are 1 to 11, and 15 to 17 where it has access lines; 12 and 13 are those of a method
+ * and a position, and 14 that of a buffer. README.md says when each is given.
  */
 #ifndef CRPD_H
 #define CRPD_H
@@ -15,11 +17,11 @@
 /* No explanation is longer. */
 #define CRPD_EXPLANATION_MOST 1317
 
-/* No accepted table text is longer. */
-#define CRPD_TABLE_MOST 6253
+/* No accepted table text is longer, access lines and all. */
+#define CRPD_TABLE_MOST 9293
 
 /* The response, in ticks, of the task at a position (from 0) under a method (0 to 5), or 0 where the
- * task is unschedulable. */
+ * task is unschedulable: the largest over the accesses that may block it, if there are any. */
 uint64_t crpd_answer(const uint8_t *text, size_t text_len, uint64_t method, uint64_t position);
 
 /* The length of the report, which then stands at the start of out. What follows it in out, and all of
@@ -27,8 +29,8 @@ uint64_t crpd_answer(const uint8_t *text, size_t text_len, uint64_t method, uint
 uint64_t crpd_report(const uint8_t *text, size_t text_len, uint8_t *out, size_t out_len);
 
 /* The length of the explanation of what crpd_answer gives for the same method and position, which then
- * stands at the start of out: a line `X` with what the task needs, whatever its limit is, and a line `I`
- * for each task above it with what that adds. What follows it in out, and all of out where it is refused,
+ * stands at the start of out: a line `X` with what the task needs, whatever its limit is, and how long it
+ * is blocked, and a line `I` for each task above it with what that adds. What follows it in out, and all of out where it is refused,
  * stays as it was. */
 uint64_t crpd_explain(const uint8_t *text, size_t text_len, uint64_t method, uint64_t position, uint8_t *out, size_t out_len);
 

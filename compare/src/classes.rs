@@ -1,5 +1,7 @@
 //! What the made-up texts and table values have to reach at least once.
 
+mod access_reasons;
+mod accesses;
 mod explained;
 mod reasons;
 mod spelled;
@@ -114,7 +116,7 @@ impl Classes {
     /// With every class that has to be reached, besides the plans of spoiled texts.
     pub fn new() -> Classes {
         let mut classes = Classes::default();
-        for number in (1..=14).chain([25]) {
+        for number in (1..=17).chain([25]) {
             classes.require(&refusal_name(number));
         }
         let names = OF_ASKING.into_iter().chain(OF_WRITING);
@@ -123,7 +125,8 @@ impl Classes {
         for name in names.chain(OF_ROW.iter().map(|class| class.0)) {
             classes.require(name);
         }
-        for name in explained::all().iter().chain(&values::all()) {
+        let further = [accesses::all(), explained::all(), values::all()];
+        for name in further.iter().flatten() {
             classes.require(name);
         }
         for name in spelled::all() {
@@ -153,6 +156,9 @@ impl Classes {
         }
         for (name, holds) in OF_ROW {
             self.reach_if(name, rows.iter().any(holds));
+        }
+        for name in accesses::reached_by_table(table) {
+            self.reach(&name);
         }
     }
 

@@ -1,8 +1,16 @@
 //! Made-up texts that are refused: for a known reason, or altered at random.
 
-use crate::generate::{text_of, Lines, BASES};
+mod accesses;
+mod altered;
+mod fields;
+
+pub use altered::{about_longest, altered};
+
+use crate::generate::{text_of, Lines, Table, BASES};
 use crate::model::{Refusal, TASKS_MOST, TEXT_MOST};
 use crate::random::Random;
+use accesses::AccessPlan;
+use fields::spoil_fields;
 
 /// The refusals of a line by what stands in it.
 const OF_FIRST_LINE: [u64; 3] = [3, 5, 6];
@@ -25,12 +33,14 @@ pub enum Plan {
     WholeText(u64, u64),
     /// Too long, and without LF at its end.
     LongAndUnended,
-    /// The 33rd line after line 1 has a reason of its own.
+    /// The 33rd task line has a reason of its own.
     TooMany(u64),
-    /// There is a 33rd line after line 1, but the one before it has a reason.
+    /// There is a 33rd task line, but the one before it has a reason.
     BeforeTooMany(u64),
     /// No task line, and a reason on line 1.
     NoTask(u64),
+    /// Something about access lines.
+    OfAccesses(AccessPlan),
 }
 
 /// A spoiled text, how it was spoiled, and the refusal it has to meet.
@@ -69,6 +79,7 @@ pub fn plans() -> Vec<Plan> {
             plans.push(Plan::TaskThenTask(*kind, below));
         }
     }
+    plans.extend(accesses::plans().into_iter().map(Plan::OfAccesses));
     plans
 }
 
@@ -86,11 +97,15 @@ impl Plan {
             Plan::TooMany(kind) => format!("10 and {kind} on line 34"),
             Plan::BeforeTooMany(kind) => format!("{kind} on line 33, 10 on line 34"),
             Plan::NoTask(kind) => format!("{kind} and 11"),
+            Plan::OfAccesses(plan) => plan.name(),
         }
     }
 
     pub fn spoil(self, random: &mut Random) -> Spoiled {
-        let mut draft = Draft::new(random);
+        let mut draft = match self {
+            Plan::OfAccesses(_) => Draft::with_accesses(random),
+            _ => Draft::new(random),
+        };
         let refusal = match self {
             Plan::Alone(kind) => draft.alone(random, kind),
             Plan::OnFirstLine(kind) => draft.line(random, 1, &[kind]),
@@ -105,7 +120,7 @@ impl Plan {
                 draft.line(random, 1, &[one])
             }
             Plan::TaskThenTask(one, other) => {
-                let below = random.between(4, draft.lines.len() as u64);
+                let below = random.between(4, draft.tasks as u64 + 1);
                 let above = random.between(3, below - 1);
                 draft.line(random, below as usize, &[other]);
                 draft.line(random, above as usize, &[one])
@@ -120,9 +135,8 @@ impl Plan {
             }
             Plan::TooMany(kind) => {
                 draft.fill_up(random, TASKS_MOST + 1);
-                let line = TASKS_MOST + 2;
-                draft.line(random, line, &[kind]);
-                Refusal::new(10, line as u64)
+                draft.line_kept(random, TASKS_MOST + 2, &[kind]);
+                Refusal::new(10, TASKS_MOST as u64 + 2)
             }
             Plan::BeforeTooMany(kind) => {
                 draft.fill_up(random, TASKS_MOST + 1);
@@ -132,6 +146,7 @@ impl Plan {
                 draft.lines.truncate(1);
                 draft.line(random, 1, &[kind])
             }
+            Plan::OfAccesses(plan) => plan.spoil(&mut draft, random),
         };
         Spoiled {
             text: draft.text(),
@@ -143,7 +158,10 @@ impl Plan {
 
 /// A text in the making, valid at first.
 struct Draft {
+    /// Line 1, the task lines and the access lines.
     lines: Lines,
+    /// How many task lines there are.
+    tasks: usize,
     too_long_by: Option<u64>,
     unended: bool,
     emptied: bool,
@@ -152,15 +170,27 @@ struct Draft {
 impl Draft {
     /// With at least three task lines.
     fn new(random: &mut Random) -> Draft {
+        Draft::of_table(random, |table| table.tasks.len() >= 3)
+    }
+
+    /// With at least one access line as well.
+    fn with_accesses(random: &mut Random) -> Draft {
+        Draft::of_table(random, |table| {
+            table.tasks.len() >= 3 && !table.accesses.is_empty()
+        })
+    }
+
+    fn of_table(random: &mut Random, is_wanted: fn(&Table) -> bool) -> Draft {
         let table = loop {
             let base = random.pick(&BASES);
             let table = base(random);
-            if table.tasks.len() >= 3 {
+            if is_wanted(&table) {
                 break table;
             }
         };
         Draft {
             lines: table.lines(),
+            tasks: table.tasks.len(),
             too_long_by: None,
             unended: false,
             emptied: false,
@@ -186,14 +216,15 @@ impl Draft {
 
     /// The number of a task line below the first task line, counted from 1.
     fn any_line(&self, random: &mut Random) -> usize {
-        random.between(3, self.lines.len() as u64) as usize
+        random.between(3, self.tasks as u64 + 1) as usize
     }
 
     fn fill_up(&mut self, random: &mut Random, tasks: usize) {
-        while self.lines.len() < tasks + 1 {
-            let mut line = random.pick(&self.lines[1..]).clone();
-            line[1] = format!("more-{}", self.lines.len()).into_bytes();
-            self.lines.push(line);
+        while self.tasks < tasks {
+            let mut line = random.pick(&self.lines[1..=self.tasks]).clone();
+            line[1] = format!("more-{}", self.tasks).into_bytes();
+            self.tasks += 1;
+            self.lines.insert(self.tasks, line);
         }
     }
 
@@ -231,6 +262,19 @@ impl Draft {
 
     /// Gives a line reason for each of `kinds`, each in fields of its own.
     fn line(&mut self, random: &mut Random, line: usize, kinds: &[u64]) -> Refusal {
+        if kinds.contains(&3) {
+            let others: Vec<u64> = kinds.iter().copied().filter(|kind| *kind != 3).collect();
+            self.line_kept(random, line, &others);
+            fields::spoil_shape(random, &mut self.lines[line - 1]);
+        } else {
+            self.line_kept(random, line, kinds);
+        }
+        let least = kinds.iter().copied().min().unwrap_or(0);
+        Refusal::new(least, line as u64)
+    }
+
+    /// The same, but the first field stays, whatever the reason.
+    fn line_kept(&mut self, random: &mut Random, line: usize, kinds: &[u64]) {
         let earlier = self.lines[1.min(line - 1)..line - 1].to_vec();
         let fields = &mut self.lines[line - 1];
         let mut free: Vec<usize> = (1..fields.len()).collect();
@@ -239,236 +283,5 @@ impl Draft {
                 spoil_fields(random, fields, &mut free, kind, &earlier);
             }
         }
-        let least = kinds.iter().copied().min().unwrap_or(0);
-        Refusal::new(least, line as u64)
     }
-}
-
-/// Takes the fields it spoils off those still free.
-fn spoil_fields(
-    random: &mut Random,
-    fields: &mut Vec<Vec<u8>>,
-    free: &mut Vec<usize>,
-    kind: u64,
-    earlier: &Lines,
-) {
-    let first_line = fields.len() == 3;
-    match kind {
-        3 => spoil_shape(random, fields),
-        4 => fields[1] = bad_name(random),
-        5 => {
-            let at = take(random, free, if first_line { 1..=2 } else { 2..=6 });
-            fields[at] = bad_number(random, &fields[at]);
-        }
-        6 if first_line => {
-            let at = take(random, free, 1..=2);
-            let sets: &[&str] = &["0", "1", "2", "3", "5", "6", "254", "257", "258", "260"];
-            let reload_time: &[&str] = &["100001", "100002", "1000000", "999999999"];
-            fields[at] = (*random.pick(if at == 1 { sets } else { reload_time })).into();
-        }
-        6 => {
-            let at = take(random, free, 2..=6);
-            let large: &[&str] = &["250000001", "250000002", "300000000", "999999999"];
-            let value = *random.pick(large);
-            let zero = at <= 4 && random.chance(40);
-            fields[at] = if zero { "0" } else { value }.into();
-        }
-        7 => {
-            let at = take(random, free, 7..=8);
-            fields[at] = bad_sets(random, &fields[at]);
-        }
-        8 => {
-            let (period, deadline, jitter) = *random.pick(&[
-                ("5", "6", "0"),
-                ("6", "5", "6"),
-                ("1", "2", "3"),
-                ("249999999", "250000000", "0"),
-                ("250000000", "249999999", "250000000"),
-            ]);
-            fields[3] = period.into();
-            fields[4] = deadline.into();
-            fields[5] = jitter.into();
-            free.retain(|at| !(3..=5).contains(at));
-        }
-        9 => fields[1] = random.pick(earlier)[1].clone(),
-        _ => unreachable!("not of a line"),
-    }
-}
-
-fn take(random: &mut Random, free: &mut Vec<usize>, of: std::ops::RangeInclusive<usize>) -> usize {
-    let choices: Vec<usize> = free.iter().copied().filter(|at| of.contains(at)).collect();
-    let taken = *random.pick(&choices);
-    free.retain(|at| *at != taken);
-    taken
-}
-
-fn spoil_shape(random: &mut Random, fields: &mut Vec<Vec<u8>>) {
-    let marks: &[&str] = &[
-        "", "t", "k", "TT", "KK", " T", "T ", "K ", "E", "\u{ff}", "\0",
-    ];
-    match random.below(6) {
-        0 => fields.push(Vec::new()),
-        1 => fields.push(b"0".to_vec()),
-        2 => {
-            fields.pop();
-        }
-        3 => *fields = vec![fields[0].clone()],
-        4 => fields[0] = if fields[0] == b"K" { "T" } else { "K" }.into(),
-        _ => fields[0] = (*random.pick(marks)).into(),
-    }
-}
-
-fn bad_name(random: &mut Random) -> Vec<u8> {
-    const BAD: [&[u8]; 12] = [
-        b"",
-        b"abcdefghijklm",
-        b"0123456789-0123456789",
-        b"A",
-        b"a_b",
-        b"a b",
-        b"a.",
-        b"aZ",
-        b"\xc3\xa4",
-        b"a\0",
-        b"`",
-        b"{",
-    ];
-    random.pick(&BAD).to_vec()
-}
-
-fn bad_number(random: &mut Random, good: &[u8]) -> Vec<u8> {
-    const BAD: [&[u8]; 16] = [
-        b"",
-        b"00",
-        b"007",
-        b"+4",
-        b"-4",
-        b" 4",
-        b"4 ",
-        b"4\r",
-        b"0x4",
-        b"1e3",
-        b"4a",
-        b"4/",
-        b"4:",
-        b"1000000000",
-        b"18446744073709551617",
-        b"\xd9\xa3",
-    ];
-    if random.chance(25) {
-        [b"0", good].concat()
-    } else {
-        random.pick(&BAD).to_vec()
-    }
-}
-
-fn bad_sets(random: &mut Random, good: &[u8]) -> Vec<u8> {
-    let mut bad = good.to_vec();
-    match random.below(5) {
-        0 => bad.push(*random.pick(b"0f\r ")),
-        1 => {
-            bad.pop();
-        }
-        2 => bad.insert(0, b'0'),
-        _ => *bad.last_mut().expect("no field is empty") = *random.pick(b"gAF/:`@G \r\0x\xff"),
-    }
-    bad
-}
-
-// ---- lengths around the longest text
-
-/// A text of about the greatest length that is looked into.
-pub fn about_longest(random: &mut Random) -> Vec<u8> {
-    let base = random.pick(&BASES);
-    let mut draft = Draft {
-        lines: base(random).lines(),
-        too_long_by: None,
-        unended: false,
-        emptied: false,
-    };
-    if random.chance(50) {
-        draft.fill_up(random, TASKS_MOST);
-    }
-    let length = random.between(TEXT_MOST as u64 - 2, TEXT_MOST as u64 + 3) as usize;
-    let at = random.below(draft.lines.len());
-    let surplus = length - text_of(&draft.lines).len();
-    match random.below(6) {
-        0 => draft.lines[at][1].extend(vec![b'0'; surplus]),
-        1 => draft.lines[at][2].extend(vec![b'0'; surplus]),
-        2 => {
-            let field = draft.lines[at].last_mut().expect("no line is empty");
-            field.extend(vec![b'0'; surplus]);
-        }
-        3 => draft.lines[at].extend(vec![Vec::new(); surplus]),
-        4 => draft.lines.extend(vec![vec![Vec::new()]; surplus]),
-        _ => draft.lines.push(vec![vec![b'T'; surplus - 1]]),
-    }
-    draft.unended = random.chance(15);
-    draft.text()
-}
-
-// ---- random alterations
-
-/// The text after one to three alterations of bytes, fields or lines.
-pub fn altered(random: &mut Random, text: &[u8]) -> Vec<u8> {
-    let mut altered = text.to_vec();
-    for _ in 0..random.between(1, 3) {
-        altered = match random.below(3) {
-            0 => with_byte_altered(random, altered),
-            1 => with_part_altered(random, &altered, b'\n'),
-            _ => with_field_altered(random, &altered),
-        };
-    }
-    altered
-}
-
-fn with_byte_altered(random: &mut Random, mut text: Vec<u8>) -> Vec<u8> {
-    const BYTES: &[u8] = b"\t\t\n\n\r 0019afgzTKAZ-+_.\0\xff\x80";
-    let at = random.below(text.len() + 1);
-    match random.below(4) {
-        0 => text.insert(at, *random.pick(BYTES)),
-        _ if at == text.len() => text.push(random.number() as u8),
-        1 => {
-            text.remove(at);
-        }
-        2 => text[at] = *random.pick(BYTES),
-        _ => text[at] ^= 1 << random.below(8),
-    }
-    text
-}
-
-fn with_field_altered(random: &mut Random, text: &[u8]) -> Vec<u8> {
-    let mut lines: Vec<Vec<u8>> = text.split(|byte| *byte == b'\n').map(Vec::from).collect();
-    let line = random.below(lines.len());
-    lines[line] = with_part_altered(random, &lines[line], b'\t');
-    lines.join(&b'\n')
-}
-
-/// Drops, doubles, exchanges or replaces one of the parts between two marks.
-fn with_part_altered(random: &mut Random, text: &[u8], mark: u8) -> Vec<u8> {
-    const FIELDS: [&str; 12] = [
-        "0",
-        "1",
-        "4",
-        "5",
-        "256",
-        "100000",
-        "250000000",
-        "999999999",
-        "f",
-        "-",
-        "T",
-        "",
-    ];
-    let mut parts: Vec<Vec<u8>> = text.split(|byte| *byte == mark).map(Vec::from).collect();
-    let (at, other) = (random.below(parts.len()), random.below(parts.len()));
-    match random.below(4) {
-        0 => {
-            parts.remove(at);
-        }
-        1 => parts.insert(at, parts[other].clone()),
-        2 => parts.swap(at, other),
-        _ => parts[at] = (*random.pick(&FIELDS)).into(),
-    }
-    parts.join(&mark)
 }

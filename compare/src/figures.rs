@@ -1,5 +1,7 @@
 //! The worked figures of the rules, and the values they give.
 
+mod accesses;
+
 use crate::library;
 use crate::model::{Outcome, Refusal};
 
@@ -22,7 +24,7 @@ pub enum Expected {
 }
 
 /// Room for every report, every explanation and every table.
-const ROOMY: usize = 8_192;
+const ROOMY: usize = 9_400;
 
 pub struct Figure {
     pub name: &'static str,
@@ -145,7 +147,7 @@ pub fn longest_explanation() -> Vec<u8> {
     text(&spelled)
 }
 
-/// The longest accepted text there is: every name of 12 bytes, every number as long as it may be,
+/// The longest accepted text without accesses: every name of 12 bytes, every number as long as it may be,
 /// and every cache set with a digit.
 pub fn longest_table() -> Vec<u8> {
     let (useful, evicting) = ("9".repeat(64), "0123456789abcdef".repeat(4));
@@ -154,6 +156,18 @@ pub fn longest_table() -> Vec<u8> {
         let times = "250000000 250000000 200000000 100000000 100000000";
         let task = format!("T longest-na{index:02} {times} {useful} {evicting}|");
         spelled.push_str(&task);
+    }
+    text(&spelled)
+}
+
+/// The longest accepted text there is: as many accesses as there may be, which take B from the tasks.
+pub fn longest_with_accesses() -> Vec<u8> {
+    let tasks = String::from_utf8_lossy(&longest_table()).into_owned();
+    let mut spelled = tasks.replace("\t100000000\t100000000\t", "\t100000000\t0\t");
+    let useful = "fedcba9876543210".repeat(4);
+    for index in 0..32 {
+        let names = format!("longest-na31 longest-na{index:02}");
+        spelled.push_str(&format!("A {names} 250000000 {useful}|"));
     }
     text(&spelled)
 }
@@ -172,6 +186,7 @@ pub fn all() -> Vec<Figure> {
     figures.extend(explanations());
     figures.extend(tables());
     figures.extend(refusals());
+    figures.extend(accesses::all());
     figures
 }
 
@@ -273,7 +288,8 @@ fn tables() -> Vec<Figure> {
         comes_back("B comes back", text(B), 66),
         comes_back("M comes back", text(M), 72),
         comes_back("P comes back", text(P), 42),
-        comes_back("the longest table comes back", longest_table(), 6_253),
+        comes_back("no access and the longest", longest_table(), 6_253),
+        comes_back("the longest table", longest_with_accesses(), 9_293),
     ]
 }
 

@@ -1,6 +1,18 @@
 //! Made-up tables that are valid.
 
-use crate::model;
+mod accesses;
+mod families;
+mod published;
+
+pub use accesses::ACCESSES_MOST;
+pub use families::{
+    crossed, edges, full, largest, loaded, near_end, near_limit, shared, small, unions, Family,
+    BASES,
+};
+pub use published::{
+    hardly_a_tick_left, hardly_a_tick_left_if_blocked, no_tick_left, published, share_as_published,
+};
+
 use crate::random::Random;
 
 pub const TIME_MOST: u64 = 250_000_000;
@@ -14,6 +26,16 @@ pub struct Table {
     pub sets: usize,
     pub reload_time: u64,
     pub tasks: Vec<Task>,
+    pub accesses: Vec<Access>,
+}
+
+#[derive(Clone)]
+pub struct Access {
+    /// Positions.
+    pub task: usize,
+    pub ceiling: usize,
+    pub length: u64,
+    pub useful: Vec<bool>,
 }
 
 #[derive(Clone)]
@@ -33,6 +55,15 @@ impl Table {
         let mut text = format!("K\t{}\t{}\n", self.sets, self.reload_time);
         for task in &self.tasks {
             text.push_str(&task.line());
+        }
+        for access in &self.accesses {
+            text.push_str(&format!(
+                "A\t{}\t{}\t{}\t{}\n",
+                self.tasks[access.task].name,
+                self.tasks[access.ceiling].name,
+                access.length,
+                hex(&access.useful)
+            ));
         }
         text.into_bytes()
     }
@@ -87,17 +118,31 @@ fn hex(sets: &[bool]) -> String {
 // ---- parts of a table
 
 fn names(random: &mut Random, count: u64) -> Vec<String> {
-    const LETTERS: &[u8] = b"abcdefghijklmnopqrstuvwxyz0123456789-";
     let mut names: Vec<String> = Vec::new();
     while (names.len() as u64) < count {
         let length = *random.pick(&[1, 1, 2, 3, 5, 8, 11, 12, 12]);
-        let letters = (0..length).map(|_| char::from(*random.pick(LETTERS)));
-        let name: String = letters.collect();
+        let name = any_name(random, length);
         if !names.contains(&name) {
             names.push(name);
         }
     }
     names
+}
+
+fn any_name(random: &mut Random, length: u64) -> String {
+    const LETTERS: &[u8] = b"abcdefghijklmnopqrstuvwxyz0123456789-";
+    let letters = (0..length).map(|_| char::from(*random.pick(LETTERS)));
+    letters.collect()
+}
+
+/// Gives a task a name of any length.
+fn rename(random: &mut Random, table: &mut Table) {
+    let length = random.between(1, 12);
+    let name = any_name(random, length);
+    if table.tasks.iter().all(|task| task.name != name) {
+        let renamed = random.below(table.tasks.len());
+        table.tasks[renamed].name = name;
+    }
 }
 
 fn any_sets(random: &mut Random) -> usize {
@@ -185,6 +230,7 @@ fn with_load(
         sets,
         reload_time,
         tasks: tasks.collect(),
+        accesses: Vec::new(),
     };
     draw_cache(random, &mut table);
     table
@@ -198,238 +244,10 @@ fn periods(random: &mut Random, count: u64, low: u64, high: u64) -> Vec<u64> {
     periods
 }
 
-// ---- families
-
-pub type Family = fn(&mut Random) -> Table;
-
-/// The families that other texts start from.
-pub const BASES: [Family; 3] = [small, loaded, unions];
-
-/// Few tasks, small numbers, all loads: every limit is small.
-pub fn small(random: &mut Random) -> Table {
-    let count = random.between(1, 5);
-    let periods = periods(random, count, 1, 60);
-    let (sets, reload_time) = (*random.pick(&[4, 8, 12]), random.between(0, 3));
-    let load = random.between(100, 1_500);
-    with_load(random, sets, reload_time, &periods, load)
-}
-
-/// Tables as they might be met, from light to overloaded.
-pub fn loaded(random: &mut Random) -> Table {
-    let count = random.between(1, 12);
-    let periods = periods(random, count, 50, 200_000);
-    let (sets, reload_time) = (any_sets(random), random.magnitude(0, 60));
-    let load = random.between(100, 1_200);
-    with_load(random, sets, reload_time, &periods, load)
-}
-
-/// As many tasks and cache sets as there may be, and long periods.
-pub fn largest(random: &mut Random) -> Table {
-    let periods = periods(random, TASKS_MOST, 1_000_000, TIME_MOST);
-    let (reload_time, load) = (random.magnitude(0, 3_000), random.between(100, 950));
-    with_load(random, 256, reload_time, &periods, load)
-}
-
-/// Cache sets that make the two unions differ.
-pub fn unions(random: &mut Random) -> Table {
-    let count = random.between(3, 8);
-    let periods = periods(random, count, 150, 4_000);
-    let (sets, reload_time) = (any_sets(random).min(64), random.between(1, 5));
-    let load = random.between(100, 600);
-    with_load(random, sets, reload_time, &periods, load)
-}
-
-/// Every number at or beside an end of its range. Where `longest` says that no long search is
-/// wanted, short periods do not stand above long deadlines.
-pub fn edges(random: &mut Random, longest: u64) -> Table {
-    let few = [1, 1, 2, 2, 3, 4, random.between(5, 32)];
-    let count = *random.pick(&few);
-    let reload_time = *random.pick(&[0, 1, 99_999, 100_000]);
-    let sets = *random.pick(&[4, 8, 252, 256]);
-    let mut periods: Vec<u64> = (0..count)
-        .map(|_| *random.pick(&[1, 2, 10, 100_000_000, TIME_MOST - 1, TIME_MOST]))
-        .collect();
-    if longest < TIME_MOST {
-        periods.sort_unstable_by(|one, other| other.cmp(one));
-    }
-    let mut table = with_load(random, sets, reload_time, &periods, 1);
-    for task in &mut table.tasks {
-        let period = task.period;
-        let beside = [1, 2, period / 2 + 1, period - period.min(2) / 2, period];
-        task.deadline = *random.pick(&beside).min(&period);
-        let beside = [0, 0, 1, task.deadline - 1, task.deadline];
-        task.jitter = *random.pick(&beside);
-        let beside = [1, 1, 2, period, TIME_MOST - 1, TIME_MOST];
-        task.execution = *random.pick(&beside);
-        task.blocking = *random.pick(&[0, 0, 0, 1, TIME_MOST - 1, TIME_MOST]);
-    }
-    table
-}
-
-/// Short periods that leave little or nothing of the processor, above deadlines up to `longest`.
-pub fn full(random: &mut Random, longest: u64) -> Table {
-    const FAMILIES: [&[u64]; 6] = [
-        &[1, 1, 1, 1, 1, 1],
-        &[2, 3, 7, 43],
-        &[2, 4, 8, 16, 32, 64, 128],
-        &[3, 4, 6, 12, 24],
-        &[5, 10, 20, 40, 100],
-        &[6, 10, 15, 30, 30, 60],
-    ];
-    let mut periods = random.pick(&FAMILIES).to_vec();
-    periods.truncate(random.between(1, periods.len() as u64) as usize);
-    let above = periods.len();
-    for _ in 0..random.between(1, 3) {
-        periods.push(random.magnitude(longest / 2, longest));
-    }
-    let reload_time = *random.pick(&[0, 0, 0, 1]);
-    let mut table = with_load(random, 4, reload_time, &periods, 1);
-    let mut free: f64 = 1.0;
-    for task in &mut table.tasks[..above] {
-        let most = (free * task.period as f64).max(1.0) as u64;
-        let execution = if random.chance(30) { most } else { 1 };
-        task.execution = execution;
-        task.jitter = if random.chance(80) { 0 } else { task.jitter };
-        task.blocking = 0;
-        free -= execution as f64 / task.period as f64;
-    }
-    for task in &mut table.tasks[above..] {
-        task.execution = random.magnitude(1, longest / 50);
-        task.jitter = task.jitter.min(9);
-    }
-    table
-}
-
-/// Another family's table with one deadline moved to where a response just is or is not in time.
-pub fn near_limit(random: &mut Random) -> Table {
-    let base = random.pick(&BASES);
-    let mut table = base(random);
-    let read = model::read(&table.text()).expect("a valid table");
-    let rows = model::analyse(&read, None).rows;
-    for _ in 0..5 {
-        let position = random.below(rows.len());
-        let answers = rows[position].answers;
-        if let Some(response) = *random.pick(&answers) {
-            let task = &mut table.tasks[position];
-            let jitter = random.between(0, 3) * random.between(0, 5);
-            let limit = (response + random.between(0, 4)).saturating_sub(1);
-            task.jitter = jitter;
-            task.deadline = (limit + jitter).clamp(1, TIME_MOST);
-            task.jitter = task.jitter.min(task.deadline);
-            task.period = task.period.max(task.deadline);
-            break;
-        }
-    }
-    table
-}
-
-/// Another family's table with a task that needs, reloads aside, about as much as a figure is looked
-/// for, up to two ticks more or less.
-pub fn near_end(random: &mut Random) -> Table {
-    let base = random.pick(&BASES);
-    let mut table = base(random);
-    if random.chance(60) {
-        table.reload_time = 0;
-    }
-    let position = random.below(table.tasks.len());
-    let needed = random.between(TIME_MOST - 2, TIME_MOST + 2);
-    let taken =
-        |task: &Task| (needed + task.jitter + task.period - 1) / task.period * task.execution;
-    let taken: u64 = table.tasks[..position].iter().map(taken).sum();
-    if taken < needed {
-        let own = needed - taken;
-        let least = own.saturating_sub(TIME_MOST).max(1);
-        let task = &mut table.tasks[position];
-        task.execution = random.between(least, own.min(TIME_MOST));
-        task.blocking = own - task.execution;
-    }
-    table
-}
-
-/// The base configuration of the published evaluation, with `tasks` tasks and ticks of a
-/// microsecond divided by `fineness`: periods of 5 to 500 ms, a reload time of 8 microseconds, a
-/// cache utilisation of 10 and a reuse factor of 0.3; deadline-monotonic order.
-pub fn published(random: &mut Random, tasks: usize, fineness: f64, utilisation: f64) -> Table {
-    let sets = 256;
-    let shares = uunifast(random, tasks, utilisation);
-    let cache_shares = uunifast(random, tasks, 10.0);
-    let names = names(random, tasks as u64);
-    let parts = names.into_iter().zip(shares.into_iter().zip(cache_shares));
-    let tasks = parts.map(|(name, (share, cache_share))| {
-        let period = (5_000.0 * fineness * 100f64.powf(random.unit())) as u64;
-        let period = period.clamp(1, TIME_MOST);
-        let used = ((cache_share * sets as f64) as usize).min(sets);
-        let start = random.below(sets);
-        let reused = random.below(used * 3 / 10 + 1);
-        Task {
-            name,
-            execution: ((share * period as f64) as u64).clamp(1, TIME_MOST),
-            period,
-            deadline: period,
-            jitter: 0,
-            blocking: 0,
-            useful: block(sets, start, reused),
-            evicting: block(sets, start, used),
-        }
-    });
-    let mut tasks: Vec<Task> = tasks.collect();
-    tasks.sort_by_key(|task| task.deadline);
-    Table {
-        sets,
-        reload_time: (8.0 * fineness) as u64,
-        tasks,
-    }
-}
-
-/// Random shares that add up to `total`, all equally likely.
-fn uunifast(random: &mut Random, count: usize, total: f64) -> Vec<f64> {
-    let mut shares = Vec::new();
-    let mut rest = total;
-    for left in (1..count).rev() {
-        let next = rest * random.unit().powf(1.0 / left as f64);
-        shares.push(rest - next);
-        rest = next;
-    }
-    shares.push(rest);
-    shares
-}
-
-/// `above` tasks that each take the whole processor, and others with `longest` ticks of time.
-pub fn no_tick_left(above: usize, longest: u64) -> Table {
-    let mut periods = vec![1; above];
-    periods.resize(TASKS_MOST as usize, longest);
-    ones(&periods)
-}
-
-/// Tasks that together leave one tick in 3,263,442, above `below` others with `longest` ticks of
-/// time.
-pub fn hardly_a_tick_left(below: usize, longest: u64) -> Table {
-    let mut periods = vec![2, 3, 7, 43, 1_807];
-    periods.resize(5 + below, longest);
-    ones(&periods)
-}
-
-fn ones(periods: &[u64]) -> Table {
-    let task = |(index, period): (usize, &u64)| Task {
-        name: format!("t{index}"),
-        execution: 1,
-        period: *period,
-        deadline: *period,
-        jitter: 0,
-        blocking: 0,
-        useful: vec![false; 256],
-        evicting: vec![false; 256],
-    };
-    Table {
-        sets: 256,
-        reload_time: 8,
-        tasks: periods.iter().enumerate().map(task).collect(),
-    }
-}
-
 #[cfg(test)]
 mod tests {
     use super::*;
+    use crate::model;
 
     #[test]
     fn every_family_is_valid() {
@@ -440,6 +258,8 @@ mod tests {
                 loaded(&mut random),
                 largest(&mut random),
                 unions(&mut random),
+                shared(&mut random),
+                crossed(&mut random),
                 near_end(&mut random),
                 edges(&mut random, TIME_MOST),
                 edges(&mut random, 1_000),
@@ -465,13 +285,18 @@ mod tests {
             ];
             for table in tables {
                 let outcome = model::Outcome::of(&table.text(), None);
-                let last = table.tasks.len() as u64 - 1;
-                assert!(outcome.explanations().explain(5, last).is_ok());
+                let explanations = outcome.explanations();
+                for position in 0..table.tasks.len() as u64 {
+                    assert!(explanations.explain(5, position).is_ok());
+                }
             }
         }
         for (execution, in_time) in [(60, true), (90, false)] {
             let mut table = hardly_a_tick_left(1, TIME_MOST);
             table.tasks[5].execution = execution;
+            let outcome = model::Outcome::of(&table.text(), None);
+            assert_eq!(outcome.rows()[5].answers[0].is_some(), in_time);
+            let table = hardly_a_tick_left_if_blocked(&[29, execution - 1], TIME_MOST);
             let outcome = model::Outcome::of(&table.text(), None);
             assert_eq!(outcome.rows()[5].answers[0].is_some(), in_time);
         }

@@ -2,65 +2,26 @@
 
 #![no_main]
 
-use crpd_compare::checks::{self, Check, Compared, Difference, ValueCheck};
+use crpd_compare::checks::{self, Check, Difference, ValueCheck};
 use crpd_compare::classes::{self, Classes};
-use crpd_compare::generate::{self, Table, TIME_MOST};
+use crpd_compare::generate::{self, Table};
+use crpd_compare::groups::Group;
 use crpd_compare::model::value::Value;
-use crpd_compare::model::{read, Error, Outcome, Writing};
+use crpd_compare::model::{read, Outcome, Part, Writing};
+use crpd_compare::options::{self, Options};
 use crpd_compare::random::Random;
 use crpd_compare::shrink::{shrink, shrink_value};
 use crpd_compare::{damage, figures, library, values};
 
 crpd_compare::entry!(run);
 
-const USAGE: &str = "usage: compare [--error 1 to 22 or 5b] [--percent N] [--longest TICKS]";
 const SEED: u64 = 0x5eed;
-
-/// Differences of one group that are told; the others are only counted.
-const TOLD_MOST: u64 = 1;
-
-struct Options {
-    error: Option<Error>,
-    /// How many of the made-up texts are taken, of 100.
-    percent: u64,
-    /// The longest deadline below tasks that take the whole processor.
-    longest: u64,
-}
-
-impl Options {
-    fn parse(words: &[String]) -> Option<Options> {
-        let mut options = Options {
-            error: None,
-            percent: 100,
-            longest: if library::IS_LINKED {
-                TIME_MOST
-            } else {
-                50_000
-            },
-        };
-        for pair in words.chunks(2) {
-            match (pair[0].as_str(), pair.get(1)?.as_str()) {
-                ("--error", name) => options.error = Some(Error::named(name)?),
-                ("--percent", number) => options.percent = number.parse().ok()?,
-                ("--longest", number) => options.longest = number.parse().ok()?,
-                _ => return None,
-            }
-        }
-        let good =
-            (1..=100).contains(&options.percent) && (1_000..=TIME_MOST).contains(&options.longest);
-        good.then_some(options)
-    }
-
-    fn share(&self, texts: u64) -> u64 {
-        (texts * self.percent / 100).max(1)
-    }
-}
 
 fn run(words: &[String]) -> i32 {
     let options = match Options::parse(words) {
         Some(options) => options,
         None => {
-            eprintln!("{USAGE}");
+            eprintln!("{}", options::USAGE);
             return 2;
         }
     };
@@ -111,60 +72,22 @@ impl ValidTexts {
     }
 }
 
-/// One of the counted groups of comparisons.
-struct Group {
-    name: &'static str,
-    texts: u64,
-    compared: u64,
-    differences: u64,
-}
-
-impl Group {
-    fn new(name: &'static str) -> Group {
-        Group {
-            name,
-            texts: 0,
-            compared: 0,
-            differences: 0,
-        }
-    }
-
-    /// Counts what was compared of a text or a value, and gives a difference back that is to be told.
-    fn count(&mut self, compared: Compared) -> Option<Difference> {
-        self.texts += 1;
-        match compared {
-            Ok(compared) => {
-                self.compared += compared;
-                None
-            }
-            Err(difference) => {
-                self.compared += 1;
-                self.differences += 1;
-                Some(difference).filter(|_| self.differences <= TOLD_MOST)
-            }
-        }
-    }
-
-    /// Counts one comparison; whether it is a difference that is to be told.
-    fn differs(&mut self, agrees: bool) -> bool {
-        self.texts += 1;
-        self.compared += 1;
-        self.differences += u64::from(!agrees);
-        !agrees && self.differences <= TOLD_MOST
-    }
-}
-
 impl Comparison {
     fn run(&mut self) {
         if let Some(error) = self.options.error {
             // a wrong model has to be told by the made-up tables alone
             let valid = self.valid_texts();
-            if error.is_of_writing() {
-                self.rewritten(&valid, &[]);
-                self.values(&valid);
-                self.value_rooms(&valid);
-            } else {
-                self.explanations(&valid, &[]);
+            match error.part() {
+                Part::Reading => {
+                    self.spoiled_texts();
+                }
+                Part::Answering => {}
+                Part::Explaining => self.explanations(&valid, &[]),
+                Part::Writing => {
+                    self.rewritten(&valid, &[]);
+                    self.values(&valid);
+                    self.value_rooms(&valid);
+                }
             }
             return;
         }
@@ -206,11 +129,13 @@ impl Comparison {
     fn valid_texts(&mut self) -> ValidTexts {
         let longest = self.options.longest;
         let common = self.drawn(&[
-            (2_500, &generate::small),
-            (2_000, &generate::loaded),
-            (1_600, &generate::unions),
+            (2_200, &generate::small),
+            (1_700, &generate::loaded),
+            (1_300, &generate::unions),
+            (1_200, &generate::shared),
+            (300, &generate::crossed),
             (1_800, &generate::near_limit),
-            (600, &generate::near_end),
+            (700, &generate::near_end),
         ]);
         let extreme = self.drawn(&[
             (1_000, &|random| generate::edges(random, longest)),
@@ -221,6 +146,7 @@ impl Comparison {
             figures::longest_report(),
             figures::longest_explanation(),
             figures::longest_table(),
+            figures::longest_with_accesses(),
         ];
         if self.options.error.is_none() {
             worst.extend(hard_texts(longest));
@@ -251,6 +177,8 @@ impl Comparison {
     fn reach_valid(&mut self, text: &[u8], outcome: &Outcome) {
         match outcome.table() {
             Some(table) => self.classes.reach_table(table, outcome.rows()),
+            // by an error of reading
+            None if self.options.error.is_some() => {}
             None => panic!("a made-up table is refused: {}", text.escape_ascii()),
         }
     }
@@ -374,7 +302,7 @@ impl Comparison {
 
     fn rewritten_rooms(&mut self, valid: &ValidTexts, refused: &[Vec<u8>]) {
         let mut group = Group::new("tables written again into buffers of every length");
-        let (short, longest) = (valid.short(), figures::longest_table());
+        let (short, longest) = (valid.short(), figures::longest_with_accesses());
         let texts = spread(&short, 300).chain([&longest]);
         for text in texts.chain(spread(refused, 100)) {
             let outcome = self.compare(&mut group, checks::rewritten_rooms, text);
@@ -417,7 +345,7 @@ impl Comparison {
             values.extend(changed.into_iter().step_by(4));
             values.push(given);
         }
-        values.push(value_of(&figures::longest_table()));
+        values.push(value_of(&figures::longest_with_accesses()));
         for value in &values {
             let writing = self.compare_value(&mut group, checks::value_rooms, value);
             self.classes.reach_value_in_rooms(&writing);
@@ -427,7 +355,7 @@ impl Comparison {
 
     fn value_lists(&mut self) {
         let mut group = Group::new("lists of numbers of every length");
-        for text in [figures::table_p(), figures::longest_table()] {
+        for text in [figures::table_p(), figures::longest_with_accesses()] {
             self.compare_value(&mut group, checks::value_lists, &value_of(&text));
         }
         self.close(group);
@@ -491,16 +419,7 @@ impl Comparison {
         } else {
             self.failed += 1;
         }
-        println!(
-            "{:>8} compared in {:>6} of: {}{}",
-            group.compared,
-            group.texts,
-            group.name,
-            match group.differences {
-                0 => String::new(),
-                count => format!(", {count} DIFFER"),
-            }
-        );
+        println!("{}", group.line());
     }
 }
 
@@ -515,6 +434,8 @@ fn hard_texts(longest: u64) -> Vec<Vec<u8>> {
         table.tasks[5].execution = execution;
         tables.push(table);
     }
+    tables.push(generate::hardly_a_tick_left_if_blocked(&[29, 59], longest));
+    tables.push(generate::hardly_a_tick_left_if_blocked(&[59, 89], longest));
     tables.iter().map(Table::text).collect()
 }
 

@@ -2,15 +2,17 @@
 //! in for it where it is not linked.
 
 mod explain;
+mod reading;
 mod table;
 
 pub use explain::{explain, explain_within};
+pub use reading::read;
 pub use table::{rewrite, spell, write_value};
 
 use std::io::Write;
 
-const TEXT_MOST: usize = 16_384;
 const TASKS_MOST: usize = 32;
+const ACCESSES_MOST: usize = 32;
 const REPORT_MOST: usize = 2_746;
 const METHODS: usize = 6;
 
@@ -59,13 +61,22 @@ impl Task {
         &self.name[..self.name_len]
     }
 
-    /// C + B.
-    fn own(&self) -> u64 {
-        self.execution + self.blocking
-    }
-
     fn activations(&self, response: u64) -> u64 {
         (response + self.jitter + self.period - 1) / self.period
+    }
+}
+
+struct Access {
+    /// Positions.
+    task: usize,
+    ceiling: usize,
+    length: u64,
+    useful: Words,
+}
+
+impl Access {
+    fn may_block(&self, i: usize) -> bool {
+        self.ceiling <= i && i < self.task
     }
 }
 
@@ -73,6 +84,7 @@ pub struct Table {
     sets: usize,
     reload_time: u64,
     tasks: Vec<Task>,
+    accesses: Vec<Access>,
 }
 
 impl Table {
@@ -81,8 +93,16 @@ impl Table {
         self.tasks.len()
     }
 
-    fn has(&self, name: &[u8]) -> bool {
-        self.tasks.iter().any(|task| task.name() == name)
+    fn position(&self, name: &[u8]) -> Option<usize> {
+        self.tasks.iter().position(|task| task.name() == name)
+    }
+
+    /// The first task with a B that its accesses leave no room for.
+    fn blocked_twice(&self) -> Option<usize> {
+        if self.accesses.is_empty() {
+            return None;
+        }
+        self.tasks.iter().position(|task| task.blocking != 0)
     }
 }
 
@@ -152,157 +172,6 @@ fn code((number, line): Refused) -> u64 {
     number << 32 | line
 }
 
-// ---- reading
-
-pub fn read(text: &[u8]) -> Result<Table, Refused> {
-    if text.len() > TEXT_MOST {
-        return Err((1, 0));
-    }
-    if text.last() != Some(&b'\n') {
-        return Err((2, 0));
-    }
-    let mut table = Table {
-        sets: 0,
-        reload_time: 0,
-        tasks: Vec::with_capacity(TASKS_MOST),
-    };
-    let mut from = 0;
-    let mut line = 1;
-    while from < text.len() {
-        let (fields, found, end) = split_line(text, from);
-        if line == 1 {
-            read_cache(&fields, found, &mut table).map_err(|number| (number, line))?;
-        } else {
-            read_task(&fields, found, &mut table).map_err(|number| (number, line))?;
-        }
-        from = end + 1;
-        line += 1;
-    }
-    if table.tasks.is_empty() {
-        return Err((11, 1));
-    }
-    Ok(table)
-}
-
-/// The first nine fields of the line that starts at `from`, the number of its fields, and the
-/// place of its LF.
-fn split_line(text: &[u8], from: usize) -> ([&[u8]; 9], usize, usize) {
-    let mut fields: [&[u8]; 9] = [&[]; 9];
-    let mut found = 0;
-    let mut start = from;
-    let mut at = from;
-    loop {
-        let byte = text[at];
-        if byte == b'\t' || byte == b'\n' {
-            if found < fields.len() {
-                fields[found] = &text[start..at];
-            }
-            found += 1;
-            start = at + 1;
-            if byte == b'\n' {
-                return (fields, found, at);
-            }
-        }
-        at += 1;
-    }
-}
-
-fn read_cache(fields: &[&[u8]; 9], found: usize, table: &mut Table) -> Result<(), u64> {
-    if found != 3 || fields[0] != b"K" {
-        return Err(3);
-    }
-    let sets = number(fields[1]).ok_or(5u64)?;
-    let reload_time = number(fields[2]).ok_or(5u64)?;
-    if !is_cache(sets, reload_time) {
-        return Err(6);
-    }
-    table.sets = sets as usize;
-    table.reload_time = reload_time;
-    Ok(())
-}
-
-fn is_cache(sets: u64, reload_time: u64) -> bool {
-    (4..=256).contains(&sets) && sets % 4 == 0 && reload_time <= 100_000
-}
-
-fn read_task(fields: &[&[u8]; 9], found: usize, table: &mut Table) -> Result<(), u64> {
-    if table.tasks.len() == TASKS_MOST {
-        return Err(10);
-    }
-    if found != 9 || fields[0] != b"T" {
-        return Err(3);
-    }
-    let name = fields[1];
-    if !is_name(name) {
-        return Err(4);
-    }
-    let mut times = [0; 5];
-    for (time, field) in times.iter_mut().zip(&fields[2..7]) {
-        *time = number(field).ok_or(5u64)?;
-    }
-    if !in_range(times) {
-        return Err(6);
-    }
-    let useful = words(fields[7], table.sets / 4).ok_or(7u64)?;
-    let evicting = words(fields[8], table.sets / 4).ok_or(7u64)?;
-    if !in_order(times) {
-        return Err(8);
-    }
-    if table.has(name) {
-        return Err(9);
-    }
-    table.tasks.push(Task::new(name, times, useful, evicting));
-    Ok(())
-}
-
-fn in_range(times: Times) -> bool {
-    let [execution, period, deadline, _, _] = times;
-    let too_large = times.iter().any(|time| *time > 250_000_000);
-    !too_large && execution != 0 && period != 0 && deadline != 0
-}
-
-fn in_order([_, period, deadline, jitter, _]: Times) -> bool {
-    jitter <= deadline && deadline <= period
-}
-
-fn is_name(field: &[u8]) -> bool {
-    let good = |byte: &u8| matches!(byte, b'a'..=b'z' | b'0'..=b'9' | b'-');
-    !field.is_empty() && field.len() <= 12 && field.iter().all(good)
-}
-
-fn number(field: &[u8]) -> Option<u64> {
-    if field.is_empty() || field.len() > 9 || (field[0] == b'0' && field.len() > 1) {
-        return None;
-    }
-    let mut value = 0;
-    for byte in field {
-        let digit = byte.wrapping_sub(b'0');
-        if digit > 9 {
-            return None;
-        }
-        value = value * 10 + u64::from(digit);
-    }
-    Some(value)
-}
-
-fn words(field: &[u8], digits: usize) -> Option<Words> {
-    if field.len() != digits {
-        return None;
-    }
-    let mut words = [0; 4];
-    for (word, digits) in words.iter_mut().zip(field.rchunks(16)) {
-        for byte in digits {
-            let digit = match byte {
-                b'0'..=b'9' => byte - b'0',
-                b'a'..=b'f' => byte - b'a' + 10,
-                _ => return None,
-            };
-            *word = *word << 4 | u64::from(digit);
-        }
-    }
-    Some(words)
-}
-
 // ---- answering
 
 pub fn answers(table: &Table, turns: &mut Turns) -> Answers {
@@ -311,14 +180,17 @@ pub fn answers(table: &Table, turns: &mut Turns) -> Answers {
         .collect()
 }
 
+/// For each access a number that the response with it is not below.
+type Starts = [u64; ACCESSES_MOST];
+
 fn row(table: &Table, i: usize, turns: &mut Turns) -> [u64; METHODS] {
     let mut row = [0; METHODS];
     // without costs the demand is least, so each other response is at least this one
-    let least = respond(table, i, 0, 0, turns);
-    if least != 0 {
-        row[0] = least;
+    let mut starts = [0; ACCESSES_MOST];
+    row[0] = respond(table, i, 0, &mut starts, turns);
+    if row[0] != 0 {
         for (method, answer) in row.iter_mut().enumerate().take(5).skip(1) {
-            *answer = respond(table, i, method, least, turns);
+            *answer = respond(table, i, method, &mut starts, turns);
         }
         row[5] = combined(row[3], row[4]);
     }
@@ -326,11 +198,12 @@ fn row(table: &Table, i: usize, turns: &mut Turns) -> [u64; METHODS] {
 }
 
 fn single(table: &Table, method: usize, i: usize, turns: &mut Turns) -> u64 {
+    let mut respond = |method| respond(table, i, method, &mut [0; ACCESSES_MOST], turns);
     if method < 5 {
-        return respond(table, i, method, 0, turns);
+        return respond(method);
     }
-    let useful_union = respond(table, i, 3, 0, turns);
-    let evicting_union = respond(table, i, 4, 0, turns);
+    let useful_union = respond(3);
+    let evicting_union = respond(4);
     combined(useful_union, evicting_union)
 }
 
@@ -342,28 +215,62 @@ fn combined(one: u64, other: u64) -> u64 {
     }
 }
 
-/// The least response of `i` by one of the methods 0 to 4, 0 for none. `start` is not above it.
-fn respond(table: &Table, i: usize, method: usize, start: u64, turns: &mut Turns) -> u64 {
+/// The response of `i` by one of the methods 0 to 4, 0 for none: the largest over the accesses that
+/// may block it, or the one with its B. Method 0 leaves its responses as starts for the others.
+fn respond(table: &Table, i: usize, method: usize, starts: &mut Starts, turns: &mut Turns) -> u64 {
     let task = &table.tasks[i];
-    let mut each = [0; TASKS_MOST];
-    for (j, (each, above)) in each.iter_mut().zip(&table.tasks[..i]).enumerate() {
-        let reloads = u64::from(reload_count(table, method, i, j));
-        *each = above.execution + table.reload_time * reloads;
-    }
     let limit = task.deadline - task.jitter;
-    search(table, i, &each, task.own().max(start), limit, turns)
+    let mut reloads = [0; TASKS_MOST];
+    for (j, reloads) in reloads.iter_mut().enumerate().take(i) {
+        *reloads = reload_count(table, method, i, j);
+    }
+    let mut search_from = |own: u64, reloads: &[u32; TASKS_MOST], start: &mut u64| {
+        let each = costs(table, i, reloads);
+        let response = search(table, i, own, &each, own.max(*start), limit, turns);
+        if method == 0 {
+            *start = response;
+        }
+        response
+    };
+    let mut largest = None;
+    for (access, start) in table.accesses.iter().zip(&mut *starts) {
+        if access.may_block(i) {
+            let own = task.execution + access.length;
+            let reloads = with_access(table, method, i, access, reloads);
+            let response = search_from(own, &reloads, start);
+            if response == 0 {
+                return 0;
+            }
+            largest = largest.max(Some(response));
+        }
+    }
+    match largest {
+        Some(response) => response,
+        None => search_from(task.execution + task.blocking, &reloads, &mut starts[0]),
+    }
 }
 
-/// The least number up to `limit` that equals its demand, 0 for none. `start` is not above it.
+/// What one activation of each task above costs.
+fn costs(table: &Table, i: usize, reloads: &[u32; TASKS_MOST]) -> [u64; TASKS_MOST] {
+    let mut each = [0; TASKS_MOST];
+    let above = table.tasks[..i].iter().zip(reloads);
+    for (each, (task, reloads)) in each.iter_mut().zip(above) {
+        *each = task.execution + table.reload_time * u64::from(*reloads);
+    }
+    each
+}
+
+/// The least number up to `limit` that equals its demand, 0 for none. `own` is what the task itself
+/// and its blocking take; `start` is not above the number.
 fn search(
     table: &Table,
     i: usize,
+    own: u64,
     each: &[u64; TASKS_MOST],
     start: u64,
     limit: u64,
     turns: &mut Turns,
 ) -> u64 {
-    let own = table.tasks[i].own();
     let mut response = start;
     while response <= limit && turns.take() {
         let mut demand = own;
@@ -400,6 +307,44 @@ fn reload_count(table: &Table, method: usize, i: usize, j: usize) -> u32 {
             sizes.max().unwrap_or(0)
         }
     }
+}
+
+/// The counts with an access that may block `i` among those whom the tasks above its ceiling affect.
+/// The unions are carried along: up from `i` in method 3, down to the ceiling in method 4.
+fn with_access(
+    table: &Table,
+    method: usize,
+    i: usize,
+    access: &Access,
+    mut reloads: [u32; TASKS_MOST],
+) -> [u32; TASKS_MOST] {
+    let above_ceiling = reloads[..access.ceiling].iter_mut().zip(&table.tasks);
+    match method {
+        2 => {
+            let value = size(access.useful);
+            for (reloads, _) in above_ceiling {
+                *reloads = value.max(*reloads);
+            }
+        }
+        3 => {
+            let affected = table.tasks[access.ceiling + 1..=i].iter();
+            let mut useful = affected.map(|task| task.useful).fold(access.useful, union);
+            for j in (0..access.ceiling).rev() {
+                useful = union(useful, table.tasks[j + 1].useful);
+                reloads[j] = size(intersection(useful, table.tasks[j].evicting));
+            }
+        }
+        4 => {
+            let mut evicting = [0; 4];
+            for (reloads, task) in above_ceiling {
+                evicting = union(evicting, task.evicting);
+                let value = size(intersection(access.useful, evicting));
+                *reloads = value.max(*reloads);
+            }
+        }
+        _ => {}
+    }
+    reloads
 }
 
 fn union(a: Words, b: Words) -> Words {

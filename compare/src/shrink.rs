@@ -1,6 +1,8 @@
 //! Making a text or a table value that shows a mismatch as small as it gets.
 
-use crate::model::value::{at, Value, COUNT, PLACE};
+use crate::model::value::{
+    access_at, at, Value, ACCESS_CEILING, ACCESS_COUNT, ACCESS_PLACE, ACCESS_TASK, COUNT, PLACE,
+};
 use std::cell::Cell;
 
 /// No more texts or values than this are tried.
@@ -63,9 +65,10 @@ fn with_fewer_sets(text: &[u8]) -> Vec<Vec<u8>> {
     let shrunk = dropped.map(|(from, to)| {
         let mut lines = lines.clone();
         lines[0][1] = (4 * (digits - (to - from))).to_string().into_bytes();
-        let bitmaps = lines[1..]
-            .iter_mut()
-            .flat_map(|line| line.iter_mut().skip(7));
+        let bitmaps = lines[1..].iter_mut().flat_map(|line| {
+            let first = first_bitmap(line);
+            line.iter_mut().skip(first)
+        });
         for field in bitmaps.filter(|field| field.len() >= to) {
             field.drain(from..to);
         }
@@ -90,11 +93,14 @@ fn fields_reduced(mut text: Vec<u8>, shows: Shows) -> Vec<u8> {
 
 fn with_field_reduced(text: &[u8], line: usize, field: usize) -> Vec<Vec<u8>> {
     let lines = fields_of(text);
-    let reduced = reductions(&lines[line][field], field);
+    let is_bitmap = field >= first_bitmap(&lines[line]);
+    let reduced = reductions(&lines[line][field], is_bitmap);
     let reduced = reduced.into_iter().map(|smaller| {
         let mut lines = lines.clone();
         lines[line][field] = smaller;
-        keep_in_order(&mut lines[line]);
+        if lines[line][0] == b"T" {
+            keep_in_order(&mut lines[line]);
+        }
         joined(&lines)
     });
     reduced.collect()
@@ -114,8 +120,17 @@ fn keep_in_order(fields: &mut [Vec<u8>]) {
     }
 }
 
-fn reductions(field: &[u8], place: usize) -> Vec<Vec<u8>> {
-    if place >= 7 {
+/// Where the fields of cache sets start in a line.
+fn first_bitmap(fields: &[Vec<u8>]) -> usize {
+    if fields[0] == b"A" {
+        4
+    } else {
+        7
+    }
+}
+
+fn reductions(field: &[u8], is_bitmap: bool) -> Vec<Vec<u8>> {
+    if is_bitmap {
         let zeroed = |from: usize, to: usize| {
             let mut smaller = field.to_vec();
             smaller[from..to].fill(b'0');
@@ -190,6 +205,7 @@ pub fn shrink_value(value: &Value, shows: &dyn Fn(&Value) -> bool) -> Value {
     let mut least = value.clone();
     loop {
         let before = least.clone();
+        least = accesses_dropped(least, &still_shows);
         least = tasks_dropped(least, &still_shows);
         least = numbers_reduced(least, &still_shows);
         if least == before || tries.get() > TRIES {
@@ -204,13 +220,42 @@ fn tasks_dropped(mut value: Value, shows: ValueShows) -> Value {
     let mut task = 0;
     while task < value.taken() {
         let mut smaller = value.clone();
-        smaller.numbers.drain(at(task, 0)..at(task + 1, 0));
-        smaller.numbers.extend([0; PLACE]);
+        let last = at(value.places().count(), 0);
+        smaller.numbers[at(task, 0)..last].rotate_left(PLACE);
+        smaller.numbers[last - PLACE..last].fill(0);
         smaller.numbers[COUNT] -= 1;
+        name_again(&mut smaller, task as u64);
         if shows(&smaller) {
             value = smaller;
         } else {
             task += 1;
+        }
+    }
+    value
+}
+
+/// The accesses name the same tasks as before, after the one at `dropped` is gone.
+fn name_again(value: &mut Value, dropped: u64) {
+    for access in 0..value.accesses_taken() {
+        for position in &mut value.access_mut(access)[ACCESS_TASK..=ACCESS_CEILING] {
+            *position -= u64::from(*position > dropped);
+        }
+    }
+}
+
+fn accesses_dropped(mut value: Value, shows: ValueShows) -> Value {
+    let mut access = 0;
+    while access < value.accesses_taken() {
+        let mut smaller = value.clone();
+        smaller
+            .numbers
+            .drain(access_at(access, 0)..access_at(access + 1, 0));
+        smaller.numbers.extend([0; ACCESS_PLACE]);
+        smaller.numbers[ACCESS_COUNT] -= 1;
+        if shows(&smaller) {
+            value = smaller;
+        } else {
+            access += 1;
         }
     }
     value
@@ -244,6 +289,22 @@ mod tests {
         let mut expected = vec![0; value.numbers.len()];
         (expected[COUNT], expected[at(0, 13)]) = (1, 30);
         assert_eq!(shrink_value(&value, &shows).numbers, expected);
+    }
+
+    #[test]
+    fn an_access_that_shows_the_mismatch_is_left_with_its_task() {
+        let accesses = b"A\tc\tb\t77\t81\nA\tb\ta\t5\t00\nA\tc\ta\t9\t00\n";
+        let text = [table_m(), accesses.to_vec()].concat();
+        let value = Value::of(&read(&text).expect("a valid table"));
+        let shows = |value: &Value| {
+            let task = |access: &[u64]| value.place(access[0] as usize)[0];
+            value
+                .accesses()
+                .any(|access| access[2] > 2 && task(access) == u64::from(b'b'))
+        };
+        let least = shrink_value(&value, &shows);
+        assert_eq!(least.access_count(), 1);
+        assert_eq!(least.access(0), [0, 0, 3, 0, 0, 0, 0]);
     }
 
     #[test]

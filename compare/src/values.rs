@@ -1,19 +1,23 @@
 //! Made-up table values: those that texts give, with something changed. Most of them no text gives.
 
+mod accesses;
+
 use crate::model::value::{
-    at, is_marked, place_and_field, Value, BLOCKING, COUNT, DEADLINE, EVICTING, EXECUTION, JITTER,
-    NAME, PERIOD, PLACE, RELOAD_TIME, SETS, USEFUL,
+    access_at, at, is_marked, kind_of, Kind, Value, ACCESS_COUNT, ACCESS_LENGTH, ACCESS_PLACE,
+    ACCESS_USEFUL, BLOCKING, COUNT, DEADLINE, EVICTING, EXECUTION, JITTER, NAME, PERIOD, PLACE,
+    RELOAD_TIME, SETS, USEFUL,
 };
-use crate::model::TASKS_MOST;
+use crate::model::{ACCESSES_MOST, TASKS_MOST};
 use crate::random::Random;
 
-/// The kinds of numbers: the three of the whole table, those of a task, and those of a place past the
-/// last task.
-const KINDS: usize = 3 + 2 * PLACE;
+/// The kinds of numbers: the four of the whole table, those of a task, of a place past the last task,
+/// of an access, and of a place past the last access.
+const KINDS: usize = OF_TABLE.len() + 2 * PLACE + 2 * ACCESS_PLACE;
+const OF_TABLE: [usize; 4] = [SETS, RELOAD_TIME, COUNT, ACCESS_COUNT];
 
 /// How many values of each sort are made from one.
-const WITH_ONE_NUMBER: usize = 7;
-const IN_SOME_MANNER: usize = 4;
+const WITH_ONE_NUMBER: usize = 8;
+const IN_SOME_MANNER: usize = 5;
 const WITH_SEVERAL_NUMBERS: usize = 1;
 
 /// Values with something changed; `turn` decides what, so that each kind and each manner has its turn.
@@ -26,7 +30,10 @@ pub fn changed(random: &mut Random, value: &Value, turn: usize) -> Vec<Value> {
         values.push(changed);
     }
     for step in 0..IN_SOME_MANNER {
-        let manner = MANNERS[(turn * IN_SOME_MANNER + step) % MANNERS.len()];
+        let manners = MANNERS.len() + accesses::MANNERS.len();
+        let manner = (turn * IN_SOME_MANNER + step) % manners;
+        let manner = MANNERS.iter().chain(&accesses::MANNERS).nth(manner);
+        let manner = manner.expect("below their number");
         let mut changed = value.clone();
         manner(random, &mut changed);
         values.push(changed);
@@ -48,12 +55,21 @@ fn change_number(random: &mut Random, value: &mut Value, kind: usize) {
     let index = index_of(random, value, kind);
     let old = value.numbers[index];
     let mut new = old;
+    let other_marks = |random: &mut Random, word: usize| {
+        let end = value.sets().wrapping_sub(word as u64 * 64);
+        other_word(random, old, end)
+    };
     while new == old {
-        new = match place_and_field(index) {
-            Some((_, field)) if NAME.contains(&field) => other_byte(random, old),
-            Some((_, field)) if field >= USEFUL.start => {
-                let first = (field - USEFUL.start) % 4 * 64;
-                other_word(random, old, value.sets().wrapping_sub(first as u64))
+        new = match kind_of(index) {
+            Kind::OfTask(_, field) if NAME.contains(&field) => other_byte(random, old),
+            Kind::OfTask(_, field) if field >= USEFUL.start => {
+                other_marks(random, (field - USEFUL.start) % 4)
+            }
+            Kind::OfAccess(_, field) if field >= ACCESS_USEFUL.start => {
+                other_marks(random, field - ACCESS_USEFUL.start)
+            }
+            Kind::OfAccess(_, field) if field < ACCESS_LENGTH && random.chance(60) => {
+                random.between(0, value.count().min(32))
             }
             _ => other_number(random, old),
         };
@@ -61,22 +77,34 @@ fn change_number(random: &mut Random, value: &mut Value, kind: usize) {
     value.numbers[index] = new;
 }
 
-/// A number of the kind. Where no place is past the last task, it is one of a task.
+/// A number of the kind. Where no place is past the last task, it is one of a task, and so with
+/// accesses; where there is no access, it is of a place past the last.
 fn index_of(random: &mut Random, value: &Value, kind: usize) -> usize {
-    let taken = value.taken();
-    let (place, field) = match kind {
-        SETS | RELOAD_TIME | COUNT => return kind,
-        _ if kind < 3 + PLACE || taken == TASKS_MOST => {
-            let places = [0, taken.saturating_sub(1), random.below(taken.max(1))];
-            (*random.pick(&places), (kind - 3) % PLACE)
-        }
-        _ => {
-            let any = taken + random.below(TASKS_MOST - taken);
-            let places = [taken, TASKS_MOST - 1, any];
-            (*random.pick(&places), (kind - 3) % PLACE)
-        }
+    if let Some(index) = OF_TABLE.get(kind) {
+        return *index;
+    }
+    let kind = kind - OF_TABLE.len();
+    if kind < 2 * PLACE {
+        let (taken, places) = (value.taken(), TASKS_MOST);
+        at(any_place(random, taken, places, kind < PLACE), kind % PLACE)
+    } else {
+        let kind = kind - 2 * PLACE;
+        let (taken, places) = (value.accesses_taken(), ACCESSES_MOST);
+        let place = any_place(random, taken, places, kind < ACCESS_PLACE);
+        access_at(place, kind % ACCESS_PLACE)
+    }
+}
+
+/// One of the places that are taken, or one past them: the first, the last or any.
+fn any_place(random: &mut Random, taken: usize, places: usize, is_taken: bool) -> usize {
+    let (first, end) = match is_taken {
+        _ if taken == 0 => (0, places),
+        _ if taken == places => (0, places),
+        true => (0, taken),
+        false => (taken, places),
     };
-    at(place, field)
+    let any = first + random.below(end - first);
+    *random.pick(&[first, end - 1, any])
 }
 
 fn other_byte(random: &mut Random, old: u64) -> u64 {
@@ -307,9 +335,14 @@ fn take_ends_of_ranges(random: &mut Random, value: &mut Value) {
 fn pass_ends_of_ranges(random: &mut Random, value: &mut Value) {
     let task = any_task(random, value);
     let place = value.place_mut(task);
-    place[PERIOD] = 250_000_001;
-    place[DEADLINE] = *random.pick(&[place[DEADLINE], 250_000_000, 250_000_001]);
-    place[JITTER] = *random.pick(&[place[JITTER], place[DEADLINE]]);
+    let past = 250_000_001;
+    if random.chance(40) {
+        place[*random.pick(&[EXECUTION, BLOCKING])] = past;
+    } else {
+        place[PERIOD] = past;
+        place[DEADLINE] = *random.pick(&[place[DEADLINE], 250_000_000, past]);
+        place[JITTER] = *random.pick(&[place[JITTER], place[DEADLINE]]);
+    }
 }
 
 fn move_number_of_sets(random: &mut Random, value: &mut Value) {
@@ -321,7 +354,8 @@ fn least_sets(value: &Value) -> u64 {
     let marked = |set: &u64| {
         let in_place =
             |place: &[u64]| is_marked(&place[USEFUL], *set) || is_marked(&place[EVICTING], *set);
-        value.places().any(in_place)
+        let mut accesses = value.access_places();
+        value.places().any(in_place) || accesses.any(|place| is_marked(&place[ACCESS_USEFUL], *set))
     };
     let highest = (0..256).rev().find(marked).unwrap_or(0);
     4 * (highest / 4 + 1)
@@ -427,13 +461,13 @@ fn set_name(value: &mut Value, task: usize, name: &[u8]) {
 #[cfg(test)]
 mod tests {
     use super::*;
-    use crate::figures::{longest_table, table_p};
+    use crate::figures::{longest_table, longest_with_accesses, table_p};
     use crate::model::{read, Writing};
 
     #[test]
     fn what_is_made_is_a_list_of_full_length_with_bytes_for_names() {
         let mut random = Random::new(17);
-        for text in [table_p(), longest_table()] {
+        for text in [table_p(), longest_table(), longest_with_accesses()] {
             let value = Value::of(&read(&text).expect("a valid table"));
             for turn in 0..500 {
                 for changed in changed(&mut random, &value, turn) {

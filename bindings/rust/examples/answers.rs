@@ -1,7 +1,15 @@
 //! Prints the response of every task of a table under every method, then the report, and then why
-//! combined (method 5) answers for the last task what it does, and last the table itself, read and written
-//! again. The table is read from standard input.
+//! combined (method 5) answers for the last task what it does, and after that the table itself, read and
+//! written again. The table is read from standard input. Last comes the same explanation for a task that
+//! an access to a shared device may block.
 use std::io::{Read, Write};
+
+/// b and c share a device. While c has it, for 2 ticks, b waits, and a may pre-empt c.
+const SHARED: &[u8] = b"K\t4\t1\n\
+    T\ta\t1\t20\t20\t0\t0\t0\t3\n\
+    T\tb\t2\t40\t40\t0\t0\t0\t0\n\
+    T\tc\t3\t60\t60\t0\t0\t3\t3\n\
+    A\tc\tb\t2\t3\n";
 
 fn main() -> std::io::Result<()> {
     let mut text = Vec::new();
@@ -34,7 +42,9 @@ fn main() -> std::io::Result<()> {
         .expect("an accepted table has a last task, and its explanation fits");
     assert!(length <= crpd::EXPLANATION_MOST);
     std::io::stdout().write_all(&out[..length])?;
-    let length =
-        crpd::rewrite(&text, &mut out).expect("an accepted table comes back, and it fits");
+    let length = crpd::rewrite(&text, &mut out).expect("an accepted table comes back, and it fits");
+    std::io::stdout().write_all(&out[..length])?;
+    let length = crpd::explain(SHARED, 5, 1, &mut out)
+        .expect("it has a second task, whose explanation fits");
     std::io::stdout().write_all(&out[..length])
 }

@@ -7,8 +7,8 @@ pub const REPORT_MOST: usize = 2746;
 /// No explanation is longer.
 pub const EXPLANATION_MOST: usize = 1317;
 
-/// No accepted table text is longer.
-pub const TABLE_MOST: usize = 6253;
+/// No accepted table text is longer, access lines and all.
+pub const TABLE_MOST: usize = 9293;
 
 #[link(name = "crpd", kind = "static")]
 extern "C" {
@@ -26,7 +26,9 @@ extern "C" {
     fn crpd_print(text: *const u8, text_len: usize, out: *mut u8, out_len: usize) -> u64;
 }
 
-/// A refusal's number, and the line that it tells (0 where it tells none).
+/// A refusal's number, and the line that it tells (0 where it tells none). Those of a text are 1 to 11,
+/// and 15 to 17 where it has access lines; 12 and 13 are those of a method and a position, and 14 that of
+/// a buffer. README.md says when each is given.
 #[derive(Clone, Copy, Debug, PartialEq, Eq)]
 pub struct Refusal {
     pub number: u32,
@@ -44,7 +46,7 @@ fn told(answer: u64) -> Result<u32, Refusal> {
 }
 
 /// The response, in ticks, of the task at a position (from 0) under a method (0 to 5), or `None` where
-/// the task is unschedulable.
+/// the task is unschedulable: the largest over the accesses that may block it, if there are any.
 pub fn answer(text: &[u8], method: u64, position: u64) -> Result<Option<u32>, Refusal> {
     let answer = told(unsafe { crpd_answer(text.as_ptr(), text.len(), method, position) })?;
     Ok(Some(answer).filter(|&ticks| ticks != 0))
@@ -57,8 +59,9 @@ pub fn report(text: &[u8], out: &mut [u8]) -> Result<usize, Refusal> {
 }
 
 /// Writes the explanation of what `answer` gives for the same method and position at the start of `out`
-/// and gives its length: a line `X` with what the task needs, whatever its limit is, and a line `I` for
-/// each task above it with what that adds. A refused explanation leaves `out` as it was.
+/// and gives its length: a line `X` with what the task needs, whatever its limit is, and how long it is
+/// blocked, and a line `I` for each task above it with what that adds. A refused explanation leaves `out`
+/// as it was.
 pub fn explain(text: &[u8], method: u64, position: u64, out: &mut [u8]) -> Result<usize, Refusal> {
     let (start, room) = (out.as_mut_ptr(), out.len());
     let written = unsafe { crpd_explain(text.as_ptr(), text.len(), method, position, start, room) };

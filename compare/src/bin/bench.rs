@@ -21,7 +21,7 @@ const PLAIN_TURNS: u64 = 5_000_000;
 const ROUNDS: u32 = 40;
 
 /// Room for every report, every explanation and every table.
-const ROOM: [u8; 6_253] = [0; 6_253];
+const ROOM: [u8; 9_293] = [0; 9_293];
 
 /// So often a table that was read is written, so that the reading hardly counts.
 const WRITINGS: u64 = 100;
@@ -72,6 +72,7 @@ fn run(words: &[String]) -> i32 {
     );
     let largest = published(32, 500.0, options.tables);
     time_tables("32 tasks, 256 sets, the largest tables", &largest, &options);
+    time_accesses(&options);
     time_bad_table("31 tasks of C = T = 1 above a long deadline", &|longest| {
         generate::no_tick_left(31, longest)
     });
@@ -87,10 +88,17 @@ fn run(words: &[String]) -> i32 {
 
 /// Tables of the published evaluation, with its utilisations from 0.025 to 0.975 in turn.
 fn published(tasks: usize, fineness: f64, count: usize) -> Vec<Vec<u8>> {
+    with_accesses(tasks, fineness, count, 0)
+}
+
+/// The same tables with accesses. Those with more have other accesses, but the same tasks.
+fn with_accesses(tasks: usize, fineness: f64, count: usize, accesses: usize) -> Vec<Vec<u8>> {
     let mut random = Random::new(SEED);
+    let mut of_accesses = Random::new(SEED + accesses as u64);
     let texts = (0..count).map(|index| {
         let utilisation = (index % 39 + 1) as f64 * 0.025;
-        let table = generate::published(&mut random, tasks, fineness, utilisation);
+        let mut table = generate::published(&mut random, tasks, fineness, utilisation);
+        generate::share_as_published(&mut of_accesses, &mut table, accesses);
         table.text()
     });
     texts.collect()
@@ -114,7 +122,7 @@ type Work<'a> = &'a mut dyn FnMut(&[u8]) -> u64;
 fn time_tables(title: &str, texts: &[Vec<u8>], options: &Options) {
     println!("{title} ({} tables)", texts.len());
     texts.iter().for_each(|text| see_same(text));
-    let last = tasks_of(&texts[0]) - 1;
+    let explained = explained_of(&texts[0]);
     let (mut out, mut plain_out) = (ROOM, ROOM);
     time_both(
         "reports",
@@ -141,8 +149,8 @@ fn time_tables(title: &str, texts: &[Vec<u8>], options: &Options) {
             what,
             texts,
             options,
-            &mut |text| library::explain(text, method, last, &mut out),
-            &mut |text| plain::explain(text, method, last, &mut plain_out),
+            &mut |text| library::explain(text, method, explained, &mut out),
+            &mut |text| plain::explain(text, method, explained, &mut plain_out),
         );
     }
     time_both(
@@ -156,8 +164,41 @@ fn time_tables(title: &str, texts: &[Vec<u8>], options: &Options) {
     time_parts(texts, options);
 }
 
+/// How the time of a report grows with the accesses, and for 32 of them all that is timed of other
+/// tables.
+fn time_accesses(options: &Options) {
+    println!(
+        "32 tasks, 256 sets, with accesses ({} tables)",
+        options.tables
+    );
+    for accesses in [0, 1, 4, 16, 32] {
+        let texts = with_accesses(32, 500.0, options.tables, accesses);
+        texts.iter().for_each(|text| see_same(text));
+        let (mut out, mut plain_out) = (ROOM, ROOM);
+        time_both(
+            &format!("reports, {accesses}"),
+            &texts,
+            options,
+            &mut |text| library::report(text, &mut out),
+            &mut |text| plain::report(text, &mut plain_out),
+        );
+    }
+    let most = with_accesses(32, 500.0, options.tables, 32);
+    time_tables("32 tasks, 256 sets, 32 accesses", &most, options);
+}
+
 fn tasks_of(text: &[u8]) -> u64 {
     model::read(text).expect("a valid table").tasks.len() as u64
+}
+
+/// The task whose explanations are timed: the last, or the middle one of a table with accesses, as
+/// nothing may block the last.
+fn explained_of(text: &[u8]) -> u64 {
+    let table = model::read(text).expect("a valid table");
+    match table.accesses.len() {
+        0 => table.tasks.len() as u64 - 1,
+        _ => table.tasks.len() as u64 / 2,
+    }
 }
 
 fn see_same(text: &[u8]) {
@@ -168,11 +209,11 @@ fn see_same(text: &[u8]) {
     );
     let same = codes.0 == codes.1 && out == plain_out;
     assert!(same, "the reports differ: {}", text.escape_ascii());
-    let last = tasks_of(text) - 1;
+    let explained = explained_of(text);
     for method in 0..model::METHODS {
         let codes = (
-            library::explain(text, method, last, &mut out),
-            plain::explain(text, method, last, &mut plain_out),
+            library::explain(text, method, explained, &mut out),
+            plain::explain(text, method, explained, &mut plain_out),
         );
         let same = codes.0 == codes.1 && out == plain_out;
         assert!(same, "the explanations differ: {}", text.escape_ascii());

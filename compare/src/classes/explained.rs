@@ -1,6 +1,6 @@
 //! What the explanations of the made-up texts have to reach.
 
-use super::Names;
+use super::{accesses, Names};
 use crate::model::{Explanation, Interference, Outcome, FIGURE_MOST};
 
 /// Of the figures of UCB-Union and ECB-Union, and the method that explains the combined one.
@@ -100,9 +100,11 @@ fn is_beyond_by(method: u64, task: &Explanation) -> bool {
     task.method == method && task.figure.is_none()
 }
 
-/// How far below the pre-empting task its victim stands.
+/// How far below the pre-empting task its victim stands; not where that is hit in an access.
 fn distance(above: &Interference) -> Option<usize> {
-    above.victim.as_ref().map(|(k, _)| k - above.position)
+    let victim = above.victim.as_ref().map(|(victim, _)| victim);
+    let victim = victim.filter(|victim| !victim.in_access)?;
+    Some(victim.task - above.position)
 }
 
 /// How many of the affected tasks have the largest value.
@@ -150,6 +152,9 @@ pub fn reached(outcome: &Outcome) -> Names {
             .filter(|class| class.1(useful, evicting, by));
         reached.extend(unions.map(|class| full(class.0)));
         reached.extend(six.iter().flat_map(reached_by));
+        if let Some(table) = outcome.table() {
+            reached.extend(accesses::reached_by_task(table, &six));
+        }
     }
     reached
 }

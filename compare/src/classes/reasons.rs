@@ -1,6 +1,6 @@
 //! Why no text gives a table value.
 
-use super::Names;
+use super::{access_reasons, Names};
 use crate::model::value::{
     field_name, is_marked, Value, BLOCKING, DEADLINE, EVICTING, EXECUTION, JITTER, NAME, PERIOD,
     PLACE, USEFUL,
@@ -44,6 +44,7 @@ const EQUAL_APART: &str = "equal names further apart";
 const JUST_PAST: &str = "just past it";
 const FURTHER_ON: &str = "further on";
 const LAST: &str = "in the last place";
+const PAST: [&str; 3] = [JUST_PAST, FURTHER_ON, LAST];
 
 /// All reasons there are.
 pub fn all() -> Names {
@@ -75,13 +76,12 @@ pub fn all() -> Names {
             reasons.extend(["first", "further"].map(|how| mark_past(how, which, word)));
         }
     }
-    for field in 0..PLACE {
-        reasons.extend([JUST_PAST, FURTHER_ON, LAST].map(|place| past_end(field, place)));
-    }
+    reasons.extend((0..PLACE).flat_map(|field| all_past_end(&field_name(field))));
+    reasons.extend(access_reasons::all());
     reasons
 }
 
-fn all_of_range(name: &str, least: u64) -> Names {
+pub fn all_of_range(name: &str, least: u64) -> Names {
     let above = [ONE_TOO_MANY, GOOD_LOW_HALF, FAR_TOO_MANY];
     let below = Some(NONE).filter(|_| least > 0);
     let hows = above.into_iter().chain(below);
@@ -103,13 +103,14 @@ pub fn reasons(value: &Value) -> Names {
             let tasks = value.places().take(taken);
             reasons.extend(tasks.flat_map(|task| of_task(task, sets)));
             reasons.extend(of_equal_names(value));
-            reasons.extend(of_places_past_end(value));
+            reasons.extend(of_places_past_end(value.places(), taken, field_name));
+            reasons.extend(access_reasons::reasons(value));
         }
     }
     reasons
 }
 
-fn of_sets(sets: u64) -> Option<String> {
+pub fn of_sets(sets: u64) -> Option<String> {
     match sets {
         1..=3 => Some(TOO_FEW_SETS.to_string()),
         4..=256 if sets % 4 != 0 => Some(NO_MULTIPLE.to_string()),
@@ -117,7 +118,7 @@ fn of_sets(sets: u64) -> Option<String> {
     }
 }
 
-fn of_range(name: &str, number: u64, least: u64, most: u64) -> Option<String> {
+pub fn of_range(name: &str, number: u64, least: u64, most: u64) -> Option<String> {
     let range = least..=most;
     let how = match number {
         _ if range.contains(&number) => return None,
@@ -190,7 +191,7 @@ fn bad_byte(byte: u8) -> String {
     }
 }
 
-fn of_marks(which: &str, words: &[u64], sets: u64) -> Names {
+pub fn of_marks(which: &str, words: &[u64], sets: u64) -> Names {
     let too_high = (sets..256).filter(|set| is_marked(words, *set));
     let reason = |set| {
         let how = if set == sets { "first" } else { "further" };
@@ -199,7 +200,7 @@ fn of_marks(which: &str, words: &[u64], sets: u64) -> Names {
     too_high.map(reason).collect()
 }
 
-fn mark_past(how: &str, which: &str, word: u64) -> String {
+pub fn mark_past(how: &str, which: &str, word: u64) -> String {
     format!("a {how} set past the cache in {which} word {word}")
 }
 
@@ -217,23 +218,31 @@ fn of_equal_names(value: &Value) -> Names {
     reasons
 }
 
-fn of_places_past_end(value: &Value) -> Names {
-    let end = value.taken();
+/// Of places of which the first `end` are taken, and the others have to be empty.
+pub fn of_places_past_end<'a>(
+    places: impl Iterator<Item = &'a [u64]>,
+    end: usize,
+    name: fn(usize) -> String,
+) -> Names {
     let mut reasons = Names::new();
-    for (index, place) in value.places().enumerate().skip(end) {
+    for (index, place) in places.enumerate().skip(end) {
         let which = match index {
             _ if index == end => JUST_PAST,
             _ if index == TASKS_MOST - 1 => LAST,
             _ => FURTHER_ON,
         };
-        let fields = (0..PLACE).filter(|field| place[*field] != 0);
-        reasons.extend(fields.map(|field| past_end(field, which)));
+        let fields = (0..place.len()).filter(|field| place[*field] != 0);
+        reasons.extend(fields.map(|field| past_end(&name(field), which)));
     }
     reasons
 }
 
-fn past_end(field: usize, which: &str) -> String {
-    format!("{} past the end, {which}", field_name(field))
+pub fn all_past_end(name: &str) -> [String; 3] {
+    PAST.map(|which| past_end(name, which))
+}
+
+fn past_end(name: &str, which: &str) -> String {
+    format!("{name} past the end, {which}")
 }
 
 #[cfg(test)]
@@ -249,7 +258,8 @@ mod tests {
         let mut random = Random::new(19);
         let known = all();
         for turn in 0..500 {
-            let text = generate::loaded(&mut random).text();
+            let family = random.pick(&generate::BASES);
+            let text = family(&mut random).text();
             let value = Value::of(&read(&text).expect("a valid table"));
             for changed in values::changed(&mut random, &value, turn) {
                 let reasons = reasons(&changed);

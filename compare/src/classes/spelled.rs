@@ -1,19 +1,19 @@
 //! What the tables that are written have to reach: fields of every length.
 
 use super::Names;
-use crate::model::value::{Value, BLOCKING, EXECUTION, NAME};
+use crate::model::value::{Value, ACCESS_LENGTH, BLOCKING, EXECUTION, NAME};
 use crate::model::Writing;
 use std::collections::BTreeSet;
 
-/// The longest table's.
-const LENGTH_MOST: usize = 6_253;
+/// The longest table's, without accesses and with them.
+const LENGTHS_MOST: [usize; 2] = [6_253, 9_293];
 
 pub fn all() -> Names {
     let mut names = Names::new();
     names.extend((4..=256).step_by(4).map(of_sets));
     names.extend((1..=12).map(of_name));
     names.extend((1..=9).map(of_number));
-    names.insert(of_text(LENGTH_MOST));
+    names.extend(LENGTHS_MOST.map(of_text));
     names
 }
 
@@ -27,10 +27,14 @@ pub fn reached(value: &Value, writing: &Writing) -> Names {
         let times = &task[EXECUTION..=BLOCKING];
         digits.extend(times.iter().map(|time| digits_of(*time)));
     }
+    let lengths_of_accesses = value.accesses().map(|access| access[ACCESS_LENGTH]);
+    digits.extend(lengths_of_accesses.map(digits_of));
     let mut names = Names::from([of_sets(value.sets())]);
     names.extend(lengths.into_iter().map(of_name));
     names.extend(digits.into_iter().map(of_number));
-    names.extend(Some(of_text(LENGTH_MOST)).filter(|_| writing.length() == LENGTH_MOST));
+    let longest = LENGTHS_MOST.into_iter();
+    let longest = longest.filter(|length| writing.length() == *length);
+    names.extend(longest.map(of_text));
     names
 }
 

@@ -2,15 +2,15 @@
 
 use super::{reasons, spelled, Names};
 use crate::model::value::{
-    field_name, is_marked, place_and_field, Value, COUNT, EVICTING, NAME, PLACE, RELOAD_TIME, SETS,
-    USEFUL,
+    access_field_name, field_name, is_marked, kind_of, Kind, Value, ACCESS_COUNT, ACCESS_PLACE,
+    ACCESS_USEFUL, COUNT, EVICTING, NAME, PLACE, RELOAD_TIME, SETS, USEFUL,
 };
-use crate::model::{Writing, TASKS_MOST};
+use crate::model::{Writing, ACCESSES_MOST, TASKS_MOST};
 
 /// Of the value that a text gives, and what was made of it.
 type OfChange = (&'static str, fn(&Value, &Value) -> bool);
 
-const WRITTEN: [OfChange; 10] = [
+const WRITTEN: [OfChange; 17] = [
     ("unchanged", |before, value| value == before),
     ("two tasks exchanged", are_two_exchanged),
     ("a task fewer", |before, value| {
@@ -21,6 +21,30 @@ const WRITTEN: [OfChange; 10] = [
     }),
     ("filled up", |before, value| {
         value.taken() == TASKS_MOST && before.taken() < TASKS_MOST
+    }),
+    ("an access fewer", has_access_fewer),
+    ("an access more", has_access_more),
+    ("no access any more", |before, value| {
+        value.access_count() == 0 && before.access_count() > 0
+    }),
+    ("filled up with accesses", |before, value| {
+        value.accesses_taken() == ACCESSES_MOST && before.accesses_taken() < ACCESSES_MOST
+    }),
+    ("two accesses exchanged", |before, value| {
+        let differs = |place: &usize| before.access(*place) != value.access(*place);
+        let places: Vec<usize> = (0..ACCESSES_MOST).filter(differs).collect();
+        let moved = |from: usize, to: usize| before.access(from) == value.access(to);
+        matches!(places[..], [one, other] if moved(one, other) && moved(other, one))
+    }),
+    ("two accesses equal", |_, value| {
+        let accesses: Vec<&[u64]> = value.accesses().collect();
+        let is_again = |index: usize| accesses[..index].contains(&accesses[index]);
+        (0..accesses.len()).any(is_again)
+    }),
+    ("an access that marks the last set", |_, value| {
+        let last = value.sets() - 1;
+        let mut accesses = value.accesses();
+        accesses.any(|access| is_marked(&access[ACCESS_USEFUL], last))
     }),
     ("more sets", |before, value| value.sets() > before.sets()),
     ("fewer sets", |before, value| value.sets() < before.sets()),
@@ -42,7 +66,7 @@ const WRITTEN: [OfChange; 10] = [
     }),
 ];
 
-const REFUSED: [OfChange; 5] = [
+const REFUSED: [OfChange; 8] = [
     ("a task fewer", |before, value| {
         value.count() == before.count() - 1
     }),
@@ -59,20 +83,35 @@ const REFUSED: [OfChange; 5] = [
         let mut from_empty = tasks(value).skip_while(|place| !is_empty(place));
         from_empty.any(|place| !is_empty(place))
     }),
+    ("an access fewer", has_access_fewer),
+    ("an access more", has_access_more),
+    ("an empty place between accesses", |_, value| {
+        let mut from_empty = value.accesses().skip_while(|place| !is_empty(place));
+        from_empty.any(|place| !is_empty(place))
+    }),
 ];
+
+fn has_access_fewer(before: &Value, value: &Value) -> bool {
+    value.access_count() + 1 == before.access_count()
+}
+
+fn has_access_more(before: &Value, value: &Value) -> bool {
+    value.access_count() == before.access_count() + 1
+}
 
 pub fn all() -> Names {
     let mut names = Names::new();
     names.extend(spelled::all().iter().map(|class| written(class)));
     names.extend(WRITTEN.iter().map(|class| written(class.0)));
     names.extend(REFUSED.iter().map(|class| refused(class.0)));
-    for index in [SETS, RELOAD_TIME, COUNT] {
+    for index in [SETS, RELOAD_TIME, COUNT, ACCESS_COUNT] {
         names.insert(refused(&in_one_number(of_table(index))));
     }
     for index in [SETS, RELOAD_TIME] {
         names.insert(written(&in_one_number(of_table(index))));
     }
-    for field in (0..PLACE).map(field_name) {
+    let of_access = (0..ACCESS_PLACE).map(access_field_name);
+    for field in (0..PLACE).map(field_name).chain(of_access) {
         names.insert(written(&in_one_number(&field)));
         names.insert(refused(&in_one_number(&field)));
         names.insert(refused(&in_one_number(&past_end(&field))));
@@ -125,16 +164,24 @@ fn only_changed_number(before: &Value, value: &Value) -> Option<String> {
     if changed.next().is_some() {
         return None;
     }
-    let name = match place_and_field(index) {
-        None => of_table(index).to_string(),
-        Some((place, field)) if place < before.taken() => field_name(field),
-        Some((_, field)) => past_end(&field_name(field)),
+    let (name, is_taken) = match kind_of(index) {
+        Kind::OfTable => (of_table(index).to_string(), true),
+        Kind::OfTask(place, field) => (field_name(field), place < before.taken()),
+        Kind::OfAccess(place, field) => {
+            let is_taken = place < before.accesses_taken();
+            (access_field_name(field), is_taken)
+        }
     };
-    Some(name)
+    Some(if is_taken { name } else { past_end(&name) })
 }
 
 fn of_table(index: usize) -> &'static str {
-    ["sets", "BRT", "tasks"][index]
+    match index {
+        SETS => "sets",
+        RELOAD_TIME => "BRT",
+        COUNT => "tasks",
+        _ => "accesses",
+    }
 }
 
 fn past_end(field: &str) -> String {

@@ -1,111 +1,186 @@
 //! Reload counts: how many blocks one activation of a task may cost another.
 
+use super::blocking::Blocker;
 use super::{Error, Table, Task};
 use std::ops::Range;
 
 pub const METHODS: u64 = 6;
 
-/// The tasks of a table, seen from the cache sets.
+/// The tasks and accesses of a table, seen from the cache sets.
 ///
-/// A cache set lies in a union over some tasks if one of the tasks is among its users; no union
-/// has to be formed.
+/// A cache set lies in a union over some of them if one of these is among its users; no union has to
+/// be formed. A user is a number: that of a task is its position, and the accesses go on from there.
 pub struct Reloads<'a> {
-    tasks: &'a [Task],
-    /// For each cache set the tasks it is useful to, in rising order.
+    table: &'a Table,
+    /// For each cache set the users it is useful to, in rising order.
     useful_to: Vec<Vec<usize>>,
-    /// For each task k and each j: how many of the sets useful to k the tasks from 0 to j evict.
+    /// For each user and each j: how many of the sets useful to it the tasks from 0 to j evict.
     evicted_down_to: Vec<Vec<usize>>,
     error: Option<Error>,
 }
 
+/// Whom an activation of a task may affect.
+pub struct Affected {
+    tasks: Range<usize>,
+    /// As users, in rising order.
+    accesses: Vec<usize>,
+}
+
+impl Affected {
+    fn has(&self, user: &usize) -> bool {
+        self.tasks.contains(user) || self.accesses.contains(user)
+    }
+
+    fn users(&self) -> impl Iterator<Item = usize> + '_ {
+        self.tasks.clone().chain(self.accesses.iter().copied())
+    }
+}
+
+/// Whom a pre-emption hits.
+#[derive(Clone, Copy, Debug, PartialEq, Eq)]
+pub struct Victim {
+    /// The position of the task.
+    pub task: usize,
+    /// Whether it is hit in an access, and not in what else it does.
+    pub in_access: bool,
+}
+
 impl<'a> Reloads<'a> {
     pub fn new(table: &'a Table, error: Option<Error>) -> Reloads<'a> {
-        let tasks = &table.tasks[..];
-        let evicted_by = users(table, |task| &task.evicting);
-        let evicted = |task: &Task, j: usize| {
+        let tasks = table.tasks.iter();
+        let evicted_by = users(table.sets, tasks.map(|task| &task.evicting));
+        let evicted = |useful: &Vec<usize>, j: usize| {
             let first = |set: &usize| evicted_by[*set].first().copied();
-            let evicting = task.useful.iter().filter_map(first);
+            let evicting = useful.iter().filter_map(first);
             evicting.filter(|evicting| *evicting <= j).count()
         };
-        let evicted_down_to = tasks.iter().map(|task| {
-            let counts = (0..tasks.len()).map(|j| evicted(task, j));
+        let evicted_down_to = all_useful(table).map(|useful| {
+            let counts = (0..table.tasks.len()).map(|j| evicted(useful, j));
             counts.collect()
         });
         Reloads {
-            tasks,
-            useful_to: users(table, |task| &task.useful),
+            table,
+            useful_to: users(table.sets, all_useful(table)),
             evicted_down_to: evicted_down_to.collect(),
             error,
         }
     }
 
-    /// The reload count of `j` while `i` is pending, by one of the methods 0 to 4.
-    pub fn count(&self, method: u64, i: usize, j: usize) -> usize {
+    /// The reload count of `j` while `i` is pending and blocked, by one of the methods 0 to 4.
+    pub fn count(&self, method: u64, i: usize, j: usize, blocker: &Blocker) -> usize {
         match method {
             0 => 0,
-            1 => self.tasks[j].evicting.len(),
-            3 => self.useful_to_any(self.affected(i, j), j),
+            1 => self.table.tasks[j].evicting.len(),
+            3 => self.useful_to_any(&self.affected(method, i, j, blocker), j),
             _ => {
-                let largest = self.values(method, i, j).max();
-                largest.unwrap_or(0)
+                let values = self.values(method, i, j, blocker);
+                values.into_iter().max().unwrap_or(0)
             }
         }
     }
 
-    /// Whom an activation of `j` hits while `i` is pending, by one of the methods 0 to 4: the first
-    /// of the affected tasks that have the largest value. None by a method without such values.
-    pub fn victim(&self, method: u64, i: usize, j: usize) -> Option<usize> {
+    /// Whom an activation of `j` hits while `i` is pending and blocked, by one of the methods 0 to 4:
+    /// the first of those affected that have the largest value, where an access comes after all
+    /// tasks. None by a method without such values.
+    pub fn victim(&self, method: u64, i: usize, j: usize, blocker: &Blocker) -> Option<Victim> {
         if !tells_values(method) {
             return None;
         }
-        let most = self.count(method, i, j);
-        let has_most = |k: &usize| self.value(method, *k, j) == most;
-        let mut affected = self.affected(i, j);
-        match self.error {
-            Some(Error::HitsLastOfEquals) => affected.rfind(has_most),
-            _ => affected.find(has_most),
-        }
+        let most = self.count(method, i, j, blocker);
+        let has_most = |user: &usize| self.value(method, *user, j) == most;
+        let affected = self.affected(method, i, j, blocker);
+        let mut tasks = affected.tasks.clone();
+        let user = match self.error {
+            Some(Error::HitsLastOfEquals) => tasks.rfind(has_most),
+            Some(Error::HitsAccessOfEquals) => {
+                let access = affected.accesses.iter().copied().find(has_most);
+                access.or_else(|| tasks.find(has_most))
+            }
+            _ => tasks.find(has_most),
+        };
+        let user = user.or_else(|| affected.users().find(has_most))?;
+        let in_access = user >= self.table.tasks.len();
+        let task = match in_access {
+            true => self.table.accesses[user - self.table.tasks.len()].task,
+            false => user,
+        };
+        Some(Victim { task, in_access })
     }
 
-    /// By method 2 or 4, what each of the affected tasks has to reload after an activation of `j`.
-    pub fn values(&self, method: u64, i: usize, j: usize) -> impl Iterator<Item = usize> + '_ {
-        let value = move |k| self.value(method, k, j);
-        self.affected(i, j).map(value)
+    /// By method 2 or 4, what each of those affected has to reload after an activation of `j`; an
+    /// access comes last.
+    pub fn values(&self, method: u64, i: usize, j: usize, blocker: &Blocker) -> Vec<usize> {
+        let affected = self.affected(method, i, j, blocker);
+        let values = affected.users().map(|user| self.value(method, user, j));
+        values.collect()
     }
 
-    fn value(&self, method: u64, k: usize, j: usize) -> usize {
+    fn value(&self, method: u64, user: usize, j: usize) -> usize {
         match method {
-            2 => self.tasks[k].useful.len(),
-            4 => self.evicted_down_to[k][j],
+            2 => match user.checked_sub(self.table.tasks.len()) {
+                None => self.table.tasks[user].useful.len(),
+                Some(access) => self.table.accesses[access].useful.len(),
+            },
+            4 => self.evicted_down_to[user][j],
             _ => unreachable!("no value of a single task"),
         }
     }
 
-    fn affected(&self, i: usize, j: usize) -> Range<usize> {
-        match self.error {
+    fn affected(&self, method: u64, i: usize, j: usize, blocker: &Blocker) -> Affected {
+        let tasks = match self.error {
             Some(Error::LeavesOutLowest) => j + 1..i,
             Some(Error::PutsInPreempting) => j..i + 1,
             _ => j + 1..i + 1,
+        };
+        let left_out = matches!(
+            (self.error, method),
+            (Some(Error::LeavesAccessOutOf2), 2)
+                | (Some(Error::LeavesAccessOutOf3), 3)
+                | (Some(Error::LeavesAccessOutOf4), 4)
+        );
+        let is_preempted = |access: &&usize| !left_out && self.preempts(j, **access);
+        let accesses = blocker.accesses.iter().filter(is_preempted);
+        Affected {
+            tasks,
+            accesses: accesses
+                .map(|access| self.table.tasks.len() + access)
+                .collect(),
         }
     }
 
-    /// How many of the sets that `j` evicts are useful to one of the tasks in `range`.
-    fn useful_to_any(&self, range: Range<usize>, j: usize) -> usize {
-        let hurts = |set: &&usize| self.useful_to[**set].iter().any(|k| range.contains(k));
-        self.tasks[j].evicting.iter().filter(hurts).count()
+    /// Only a task above the ceiling does.
+    fn preempts(&self, j: usize, access: usize) -> bool {
+        let ceiling = self.table.accesses[access].ceiling;
+        match self.error {
+            Some(Error::PreemptsAtCeiling) => j <= ceiling,
+            Some(Error::PreemptsBelowCeiling) => true,
+            _ => j < ceiling,
+        }
+    }
+
+    /// How many of the sets that `j` evicts are useful to one of those affected.
+    fn useful_to_any(&self, affected: &Affected, j: usize) -> usize {
+        let hurts = |set: &&usize| self.useful_to[**set].iter().any(|user| affected.has(user));
+        self.table.tasks[j].evicting.iter().filter(hurts).count()
     }
 }
 
-/// Whether the count of a method is the largest of values that the affected tasks have each.
+/// Whether the count of a method is the largest of values that those affected have each.
 pub fn tells_values(method: u64) -> bool {
     matches!(method, 2 | 4)
 }
 
-fn users(table: &Table, sets_of: fn(&Task) -> &Vec<usize>) -> Vec<Vec<usize>> {
-    let mut users = vec![Vec::new(); table.sets];
-    for (position, task) in table.tasks.iter().enumerate() {
-        for set in sets_of(task) {
-            users[*set].push(position);
+/// The sets useful to each user, in the order of their numbers.
+fn all_useful(table: &Table) -> impl Iterator<Item = &Vec<usize>> {
+    let of_tasks = table.tasks.iter().map(|task: &Task| &task.useful);
+    of_tasks.chain(table.accesses.iter().map(|access| &access.useful))
+}
+
+fn users<'a>(sets: usize, of_each: impl Iterator<Item = &'a Vec<usize>>) -> Vec<Vec<usize>> {
+    let mut users = vec![Vec::new(); sets];
+    for (user, members) in of_each.enumerate() {
+        for set in members {
+            users[*set].push(user);
         }
     }
     users
@@ -114,55 +189,83 @@ fn users(table: &Table, sets_of: fn(&Task) -> &Vec<usize>) -> Vec<Vec<usize>> {
 #[cfg(test)]
 mod tests {
     use super::*;
-    use crate::generate::unions;
+    use crate::generate::shared;
+    use crate::model::blocking::blockers;
     use crate::model::read;
     use crate::random::Random;
     use std::collections::BTreeSet;
 
-    fn union<'a>(sets: impl Iterator<Item = &'a Vec<usize>>) -> BTreeSet<usize> {
+    type Sets = BTreeSet<usize>;
+
+    fn union<'a>(sets: impl Iterator<Item = &'a Vec<usize>>) -> Sets {
         sets.flatten().copied().collect()
+    }
+
+    /// Calls `see` with made-up tables, and each j above an i with each of what may block that.
+    fn each_pair(seed: u64, see: impl Fn(&Table, &Reloads, usize, usize, &Blocker)) {
+        let mut random = Random::new(seed);
+        for _ in 0..50 {
+            let table = read(&shared(&mut random).text()).expect("a valid table");
+            let reloads = Reloads::new(&table, None);
+            for i in 0..table.tasks.len() {
+                for blocker in blockers(&table, i, None) {
+                    for j in 0..i {
+                        see(&table, &reloads, i, j, &blocker);
+                    }
+                }
+            }
+        }
+    }
+
+    /// The UCBs of aff(i, j), with that of an access which `j` may pre-empt.
+    fn useful_of_affected(table: &Table, i: usize, j: usize, blocker: &Blocker) -> Vec<Vec<usize>> {
+        let tasks = table.tasks[j + 1..=i].iter();
+        let mut sets: Vec<Vec<usize>> = tasks.map(|task| task.useful.clone()).collect();
+        for access in &blocker.accesses {
+            if j < table.accesses[*access].ceiling {
+                sets.push(table.accesses[*access].useful.clone());
+            }
+        }
+        sets
     }
 
     #[test]
     fn asking_the_users_is_the_same_as_forming_the_unions() {
-        let mut random = Random::new(1);
-        for _ in 0..50 {
-            let table = read(&unions(&mut random).text()).expect("a valid table");
-            let reloads = Reloads::new(&table, None);
+        each_pair(1, |table, reloads, i, j, blocker| {
             let tasks = &table.tasks;
-            for i in 0..tasks.len() {
-                for j in 0..i {
-                    let useful = union(tasks[j + 1..=i].iter().map(|task| &task.useful));
-                    let evicting = union(std::iter::once(&tasks[j].evicting));
-                    let met = useful.intersection(&evicting).count();
-                    assert_eq!(reloads.count(3, i, j), met);
-                    let evicted = union(tasks[..=j].iter().map(|task| &task.evicting));
-                    let met_by = |task: &Task| {
-                        let useful = union(std::iter::once(&task.useful));
-                        useful.intersection(&evicted).count()
-                    };
-                    let largest = tasks[j + 1..=i].iter().map(met_by).max();
-                    assert_eq!(Some(reloads.count(4, i, j)), largest);
-                }
-            }
-        }
+            let each = useful_of_affected(table, i, j, blocker);
+            let useful = union(each.iter());
+            let evicting = union(std::iter::once(&tasks[j].evicting));
+            let met = useful.intersection(&evicting).count();
+            assert_eq!(reloads.count(3, i, j, blocker), met);
+            let evicted = union(tasks[..=j].iter().map(|task| &task.evicting));
+            let met_by = |useful: &Vec<usize>| {
+                let useful = union(std::iter::once(useful));
+                useful.intersection(&evicted).count()
+            };
+            let largest = each.iter().map(met_by).max();
+            assert_eq!(Some(reloads.count(4, i, j, blocker)), largest);
+            let largest = each.iter().map(Vec::len).max();
+            assert_eq!(Some(reloads.count(2, i, j, blocker)), largest);
+        });
     }
 
     #[test]
     fn no_task_is_hit_harder_than_the_victim_and_none_above_it_as_hard() {
-        let mut random = Random::new(2);
-        for _ in 0..50 {
-            let table = read(&unions(&mut random).text()).expect("a valid table");
-            let reloads = Reloads::new(&table, None);
-            for i in 0..table.tasks.len() {
-                for (j, method) in (0..i).flat_map(|j| [(j, 2), (j, 4)]) {
-                    let victim = reloads.victim(method, i, j).expect("a victim");
-                    let most = reloads.value(method, victim, j);
-                    let value = |k| reloads.value(method, k, j);
-                    assert!((j + 1..victim).all(|k| value(k) < most));
-                    assert!((victim..=i).all(|k| value(k) <= most));
+        each_pair(2, |table, reloads, i, j, blocker| {
+            for method in [2, 4] {
+                let most = reloads.count(method, i, j, blocker);
+                let value = |k| reloads.value(method, k, j);
+                let victim = reloads.victim(method, i, j, blocker).expect("a victim");
+                if victim.in_access {
+                    assert!((j + 1..=i).all(|k| value(k) < most));
+                    assert_eq!(victim.task, table.accesses[blocker.accesses[0]].task);
+                } else {
+                    assert!((j + 1..victim.task).all(|k| value(k) < most));
+                    assert!((victim.task..=i).all(|k| value(k) <= most));
+                    assert_eq!(value(victim.task), most);
                 }
             }
-        }
+        });
     }
 }

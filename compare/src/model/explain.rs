@@ -1,6 +1,7 @@
 //! The reason behind a figure: who takes how much of it.
 
-use super::costs::{tells_values, Reloads};
+use super::blocking::{blockers, Blocker};
+use super::costs::{tells_values, Reloads, Victim};
 use super::report::equation;
 use super::response::Equation;
 use super::{Error, Table};
@@ -19,9 +20,21 @@ pub struct Explanation {
     /// D - J.
     pub limit: u64,
     pub execution: u64,
+    /// B, or the length of the access that is explained.
     pub blocking: u64,
+    /// Everything that may block the task, each with its figure by the method explained.
+    pub cases: Vec<Case>,
+    /// Which of the cases is explained.
+    pub explained: usize,
     /// What the tasks above take of the figure, from the highest on; nothing where there is none.
     pub taken: Vec<Interference>,
+}
+
+/// One thing that may block a task, and the figure that the task has then.
+pub struct Case {
+    /// The place of an access in the table; `None` for the task's own B.
+    pub access: Option<usize>,
+    pub figure: Option<u64>,
 }
 
 /// What one task takes of the figure of a task below.
@@ -32,10 +45,12 @@ pub struct Interference {
     /// Whether the figure plus J is a multiple of T.
     pub ends_period: bool,
     pub reloads: usize,
-    /// What each of the affected tasks has to reload, where the method has such values.
+    /// What each of those affected has to reload, an access last, where the method has such values.
     pub values: Vec<usize>,
-    /// The position of the task that is hit, and its name.
-    pub victim: Option<(usize, String)>,
+    /// Whether an access is among those affected.
+    pub meets_access: bool,
+    /// Who is hit, and the task's name.
+    pub victim: Option<(Victim, String)>,
 }
 
 /// Explains the figures of one table.
@@ -61,10 +76,17 @@ impl<'a> Explainer<'a> {
     /// The explanation of the task at `i` by one of the methods 0 to 5.
     pub fn explain(&self, method: u64, i: usize) -> Explanation {
         let task = &self.table.tasks[i];
-        let (method, figure) = self.method_and_figure(method, i);
+        let worst = self.worst(method, i);
+        let (method, figure) = (worst.method, worst.figure());
         let shown = match self.error {
             Some(Error::ListsAfterBeyond) => Some(figure.unwrap_or(FIGURE_MOST)),
             _ => figure,
+        };
+        let blocker = &worst.blockers[worst.explained];
+        let taken = shown.map_or(Vec::new(), |figure| self.taken(method, i, blocker, figure));
+        let blocking = match self.error {
+            Some(Error::ShowsOwnBlocking) => task.blocking,
+            _ => blocker.length,
         };
         Explanation {
             position: i,
@@ -73,85 +95,136 @@ impl<'a> Explainer<'a> {
             figure,
             limit: task.deadline - task.jitter,
             execution: task.execution,
-            blocking: task.blocking,
-            taken: shown.map_or(Vec::new(), |figure| self.taken(method, i, figure)),
+            blocking,
+            explained: worst.explained,
+            cases: worst.cases(),
+            taken,
         }
     }
 
-    /// The method explained, where `method` is asked for, and its figure.
-    fn method_and_figure(&self, method: u64, i: usize) -> (u64, Option<u64>) {
+    /// What explains the task at `i`, where `method` is asked for.
+    fn worst(&self, method: u64, i: usize) -> Worst {
         if method < 5 {
-            return (method, self.figure(method, i));
+            return self.worst_by(method, i);
         }
-        let (useful_union, evicting_union) = (self.figure(3, i), self.figure(4, i));
-        // larger than any number
-        let beyond = u64::MAX;
-        let size = |figure: Option<u64>| figure.unwrap_or(beyond);
-        let (by_useful, by_evicting) = (size(useful_union), size(evicting_union));
+        let (useful_union, evicting_union) = (self.worst_by(3, i), self.worst_by(4, i));
+        let (by_useful, by_evicting) = (size(useful_union.figure()), size(evicting_union.figure()));
         let takes_useful = match self.error {
             Some(Error::ExplainsDearer) => by_useful > by_evicting,
             Some(Error::ExplainsThreeIfEqual) => by_useful <= by_evicting,
             _ => by_useful < by_evicting,
         };
         if takes_useful {
-            (3, useful_union)
+            useful_union
         } else {
-            (4, evicting_union)
+            evicting_union
         }
     }
 
-    fn figure(&self, method: u64, i: usize) -> Option<u64> {
+    fn worst_by(&self, method: u64, i: usize) -> Worst {
+        let blockers = blockers(self.table, i, self.error);
+        let figures = blockers
+            .iter()
+            .map(|blocker| self.figure(method, i, blocker));
+        let figures: Vec<Option<u64>> = figures.collect();
+        let sizes = figures.iter().map(|figure| match self.error {
+            Some(Error::ExplainsLargestNumber) => figure.unwrap_or(0),
+            _ => size(*figure),
+        });
+        let sizes: Vec<u64> = sizes.collect();
+        let has_most = |size: &u64| Some(size) == sizes.iter().max();
+        let explained = match self.error {
+            Some(Error::ExplainsFirst) => Some(0),
+            Some(Error::ExplainsLastOfEquals) => sizes.iter().rposition(has_most),
+            _ => sizes.iter().position(has_most),
+        };
+        Worst {
+            method,
+            explained: explained.expect("something blocks, if only for 0 ticks"),
+            blockers,
+            figures,
+        }
+    }
+
+    fn figure(&self, method: u64, i: usize, blocker: &Blocker) -> Option<u64> {
         let task = &self.table.tasks[i];
         let end = match self.error {
             Some(Error::EndsAtLimit) => task.deadline - task.jitter,
             _ => FIGURE_MOST,
         };
-        self.equation(method, i).least_response(end)
+        self.equation(method, i, blocker).least_response(end)
     }
 
-    fn equation(&self, method: u64, i: usize) -> Equation {
-        let count = |j| self.reloads.count(method, i, j);
-        equation(self.table, i, &count, self.error)
+    fn equation(&self, method: u64, i: usize, blocker: &Blocker) -> Equation {
+        let count = |j| self.reloads.count(method, i, j, blocker);
+        equation(self.table, i, blocker, &count, self.error)
     }
 
-    fn taken(&self, method: u64, i: usize, figure: u64) -> Vec<Interference> {
-        let equation = self.equation(method, i);
+    fn taken(&self, method: u64, i: usize, blocker: &Blocker, figure: u64) -> Vec<Interference> {
+        let equation = self.equation(method, i, blocker);
         let taken = equation.loads.iter().enumerate().map(|(j, load)| {
             let activations = equation.activations(load, figure);
             let ends_period = (figure + load.jitter) % load.period == 0;
-            self.interference(method, i, j, activations, ends_period)
+            let one_more = ends_period && self.error == Some(Error::ListsOneMore);
+            Interference {
+                activations: activations + u64::from(one_more),
+                ends_period,
+                ..self.reloading(method, i, j, blocker)
+            }
         });
         taken.collect()
     }
 
-    fn interference(
-        &self,
-        method: u64,
-        i: usize,
-        j: usize,
-        activations: u64,
-        ends_period: bool,
-    ) -> Interference {
-        let one_more = ends_period && self.error == Some(Error::ListsOneMore);
+    /// What an activation of `j` makes others reload.
+    fn reloading(&self, method: u64, i: usize, j: usize, blocker: &Blocker) -> Interference {
         let row = match self.error {
             Some(Error::ListsRowAbove) if j + 1 < i => i - 1,
             _ => i,
         };
         let values = if tells_values(method) {
-            self.reloads.values(method, i, j).collect()
+            self.reloads.values(method, i, j, blocker)
         } else {
             Vec::new()
         };
-        let named = |k: usize| (k, self.table.tasks[k].name.clone());
+        let named = |victim: Victim| (victim, self.table.tasks[victim.task].name.clone());
         Interference {
             position: j,
             name: self.table.tasks[j].name.clone(),
-            activations: activations + u64::from(one_more),
-            ends_period,
-            reloads: self.reloads.count(method, row, j),
+            activations: 0,
+            ends_period: false,
+            reloads: self.reloads.count(method, row, j, blocker),
+            meets_access: values.len() > i - j,
             values,
-            victim: self.reloads.victim(method, i, j).map(named),
+            victim: self.reloads.victim(method, i, j, blocker).map(named),
         }
+    }
+}
+
+/// `beyond` is larger than any number.
+fn size(figure: Option<u64>) -> u64 {
+    figure.unwrap_or(u64::MAX)
+}
+
+/// The figures of a task by one method, and which of them is explained.
+struct Worst {
+    method: u64,
+    blockers: Vec<Blocker>,
+    figures: Vec<Option<u64>>,
+    explained: usize,
+}
+
+impl Worst {
+    fn figure(&self) -> Option<u64> {
+        self.figures[self.explained]
+    }
+
+    fn cases(&self) -> Vec<Case> {
+        let cases = self.blockers.iter().zip(&self.figures);
+        let cases = cases.map(|(blocker, figure)| Case {
+            access: blocker.accesses.first().copied(),
+            figure: *figure,
+        });
+        cases.collect()
     }
 }
 
@@ -194,10 +267,11 @@ mod tests {
     use crate::model::{analyse, read};
     use crate::random::Random;
 
-    const FAMILIES: [Family; 4] = [
+    const FAMILIES: [Family; 5] = [
         generate::small,
         generate::loaded,
         generate::unions,
+        generate::shared,
         generate::near_limit,
     ];
 

@@ -2,10 +2,13 @@
 //!
 //! It shares nothing with the proved code but the rules: cache sets are sorted lists of numbers,
 //! unions are asked member by member, the text is taken apart by the standard library, a response
-//! is found by trying every number where the limit is small, and whether a text gives a table value
-//! is found by reading what the value spells.
+//! is found by trying every number where the limit is small, each access that may block a task has an
+//! equation of its own, and whether a text gives a table value is found by reading what the value
+//! spells.
 
+mod blocking;
 mod costs;
+mod error;
 mod explain;
 mod read;
 mod report;
@@ -14,12 +17,14 @@ pub mod value;
 mod write;
 
 pub use costs::METHODS;
-pub use explain::{Explanation, Interference, FIGURE_MOST};
-pub use read::{read, Table, Task, TASKS_MOST, TEXT_MOST};
+pub use error::{Error, Part};
+pub use explain::{Case, Explanation, Interference, FIGURE_MOST};
+pub use read::{read, Access, Table, Task, ACCESSES_MOST, TASKS_MOST, TEXT_MOST};
 pub use report::{analyse, Analysis, Row};
 pub use write::Writing;
 
 use explain::Explainer;
+use read::read_with;
 use value::Value;
 
 /// Why something was not given: the refusal's number and the line told.
@@ -40,107 +45,6 @@ impl Refusal {
     }
 }
 
-/// The errors that look reasonable. The model with one of them built in has to be told apart from
-/// the library.
-#[derive(Clone, Copy, Debug, PartialEq, Eq)]
-pub enum Error {
-    /// 1: the search starts from a guess.
-    StartsFromGuess,
-    /// 2: no response where the demand at the limit is above the limit.
-    JudgesAtLimit,
-    /// 3: the combined method takes the smaller cost of each pair in one equation.
-    CombinesPerPair,
-    /// 4: one activation too many where R + J is a multiple of T.
-    CountsOneMore,
-    /// 5: task i is left out of those affected.
-    LeavesOutLowest,
-    /// 5b: task j is put among those affected.
-    PutsInPreempting,
-    /// 6: the response is held against D, not D - J.
-    ForgetsOwnJitter,
-    /// 7: the combined method is explained by the dearer union.
-    ExplainsDearer,
-    /// 8: the combined method is explained by method 3 where both unions are equal.
-    ExplainsThreeIfEqual,
-    /// 9: an explanation, but not its figure, has one activation too many where R + J is a multiple
-    /// of T.
-    ListsOneMore,
-    /// 10: an explanation has the reload counts of the task above where that has one.
-    ListsRowAbove,
-    /// 11: the search for a figure ends at the task's limit.
-    EndsAtLimit,
-    /// 12: the victim is the last of those with the largest value.
-    HitsLastOfEquals,
-    /// 13: the tasks above are listed though the figure is beyond the search's end.
-    ListsAfterBeyond,
-    /// 14: numbers of a written table have at least two digits.
-    PadsNumbers,
-    /// 15: the cache sets of a written table have the digits A to F.
-    UsesLargeLetters,
-    /// 16: the cache sets of a written table start from the lowest digit.
-    StartsFromLowestSets,
-    /// 17: the tasks of a written table stand from the last to the first.
-    TurnsTasksRound,
-    /// 18: the period of a written task is its deadline.
-    WritesDeadlineForPeriod,
-    /// 19: a table value is written though two of its tasks have the same name.
-    OverlooksEqualNames,
-    /// 20: a table value is written, without the mark, though it marks a set that the cache does
-    /// not have.
-    OverlooksHighMarks,
-    /// 21: a table value is written though a place past its last task is not empty.
-    OverlooksPastEnd,
-    /// 22: 14 comes before 25.
-    LooksAtRoomFirst,
-}
-
-impl Error {
-    pub fn named(name: &str) -> Option<Error> {
-        match name {
-            "1" => Some(Error::StartsFromGuess),
-            "2" => Some(Error::JudgesAtLimit),
-            "3" => Some(Error::CombinesPerPair),
-            "4" => Some(Error::CountsOneMore),
-            "5" => Some(Error::LeavesOutLowest),
-            "5b" => Some(Error::PutsInPreempting),
-            "6" => Some(Error::ForgetsOwnJitter),
-            "7" => Some(Error::ExplainsDearer),
-            "8" => Some(Error::ExplainsThreeIfEqual),
-            "9" => Some(Error::ListsOneMore),
-            "10" => Some(Error::ListsRowAbove),
-            "11" => Some(Error::EndsAtLimit),
-            "12" => Some(Error::HitsLastOfEquals),
-            "13" => Some(Error::ListsAfterBeyond),
-            "14" => Some(Error::PadsNumbers),
-            "15" => Some(Error::UsesLargeLetters),
-            "16" => Some(Error::StartsFromLowestSets),
-            "17" => Some(Error::TurnsTasksRound),
-            "18" => Some(Error::WritesDeadlineForPeriod),
-            "19" => Some(Error::OverlooksEqualNames),
-            "20" => Some(Error::OverlooksHighMarks),
-            "21" => Some(Error::OverlooksPastEnd),
-            "22" => Some(Error::LooksAtRoomFirst),
-            _ => None,
-        }
-    }
-
-    /// Whether it is built into the writing of tables, and not into what is told about them.
-    pub fn is_of_writing(self) -> bool {
-        matches!(
-            self,
-            Error::PadsNumbers
-                | Error::UsesLargeLetters
-                | Error::StartsFromLowestSets
-                | Error::TurnsTasksRound
-                | Error::WritesDeadlineForPeriod
-                | Error::OverlooksEqualNames
-                | Error::OverlooksHighMarks
-                | Error::OverlooksPastEnd
-                | Error::LooksAtRoomFirst
-        )
-    }
-}
-
 /// All that the model has to say of one text.
 pub struct Outcome {
     accepted: Result<(Table, Analysis), Refusal>,
@@ -150,7 +54,7 @@ pub struct Outcome {
 
 impl Outcome {
     pub fn of(text: &[u8], error: Option<Error>) -> Outcome {
-        let accepted = read(text).map(|table| {
+        let accepted = read_with(text, error).map(|table| {
             let analysis = analyse(&table, error);
             (table, analysis)
         });

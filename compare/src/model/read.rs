@@ -1,9 +1,10 @@
 //! Reading a table text.
 
-use super::Refusal;
+use super::{Error, Refusal};
 
 pub const TEXT_MOST: usize = 16_384;
 pub const TASKS_MOST: usize = 32;
+pub const ACCESSES_MOST: usize = 32;
 const TIME_MOST: u64 = 250_000_000;
 const RELOAD_TIME_MOST: u64 = 100_000;
 const NAME_MOST: usize = 12;
@@ -14,6 +15,8 @@ pub struct Table {
     pub sets: usize,
     pub reload_time: u64,
     pub tasks: Vec<Task>,
+    /// In the order of their lines.
+    pub accesses: Vec<Access>,
 }
 
 #[derive(Clone, Debug, PartialEq, Eq)]
@@ -30,10 +33,26 @@ pub struct Task {
     pub evicting: Vec<usize>,
 }
 
+/// What a task does with a shared device.
+#[derive(Clone, Debug, PartialEq, Eq)]
+pub struct Access {
+    /// The task's position.
+    pub task: usize,
+    /// The position of the highest task that uses the device.
+    pub ceiling: usize,
+    pub length: u64,
+    /// Cache sets in rising order.
+    pub useful: Vec<usize>,
+}
+
 /// The number of a refusal met within a line.
 type Number = u64;
 
 pub fn read(text: &[u8]) -> Result<Table, Refusal> {
+    read_with(text, None)
+}
+
+pub fn read_with(text: &[u8], error: Option<Error>) -> Result<Table, Refusal> {
     if text.len() > TEXT_MOST {
         return Err(Refusal::new(1, 0));
     }
@@ -41,23 +60,33 @@ pub fn read(text: &[u8]) -> Result<Table, Refusal> {
     let mut lines = body.split(|byte| *byte == b'\n');
     let first = lines.next().unwrap_or(&[]);
     let (sets, reload_time) = cache_line(first).map_err(|number| Refusal::new(number, 1))?;
-    let mut tasks = Vec::new();
-    for (line, place) in lines.zip(2..) {
-        let task = task_line(line, sets, &tasks).map_err(|number| Refusal::new(number, place))?;
-        tasks.push(task);
-    }
-    if tasks.is_empty() {
-        return Err(Refusal::new(11, 1));
-    }
-    Ok(Table {
+    let mut table = Table {
         sets,
         reload_time,
-        tasks,
-    })
+        tasks: Vec::new(),
+        accesses: Vec::new(),
+    };
+    for (line, place) in lines.zip(2..) {
+        let added = add_line(&mut table, line, error);
+        added.map_err(|number| Refusal::new(number, place))?;
+    }
+    if table.tasks.is_empty() {
+        return Err(Refusal::new(11, 1));
+    }
+    if !table.accesses.is_empty() || error == Some(Error::RefusesEveryBlocking) {
+        let mut tasks = table.tasks.iter().zip(2..);
+        if let Some((_, place)) = tasks.find(|(task, _)| task.blocking > 0) {
+            return Err(Refusal::new(17, place));
+        }
+    }
+    Ok(table)
 }
 
 fn cache_line(line: &[u8]) -> Result<(usize, u64), Number> {
-    let fields = fields_of(line, b"K", 3)?;
+    let fields = split(line);
+    if fields[0] != b"K" || fields.len() != 3 {
+        return Err(3);
+    }
     let numbers = numbers(&fields[1..])?;
     let (sets, reload_time) = (numbers[0], numbers[1]);
     let in_range = (4..=256).contains(&sets) && sets % 4 == 0 && reload_time <= RELOAD_TIME_MOST;
@@ -68,11 +97,37 @@ fn cache_line(line: &[u8]) -> Result<(usize, u64), Number> {
     }
 }
 
-fn task_line(line: &[u8], sets: usize, above: &[Task]) -> Result<Task, Number> {
-    if above.len() == TASKS_MOST {
+/// A line below line 1. All lines before it were good, so there are as many of them with `T` as
+/// there are tasks, and as many with `A` as there are accesses.
+fn add_line(table: &mut Table, line: &[u8], error: Option<Error>) -> Result<(), Number> {
+    let before = table.tasks.len() + table.accesses.len();
+    if error == Some(Error::CountsAllLines) && before == TASKS_MOST {
         return Err(10);
     }
-    let fields = fields_of(line, b"T", 9)?;
+    let fields = split(line);
+    match fields[0] {
+        b"T" => {
+            let task = task_line(table, &fields, error)?;
+            table.tasks.push(task);
+        }
+        b"A" => {
+            let access = access_line(table, &fields, error)?;
+            table.accesses.push(access);
+        }
+        _ => return Err(3),
+    }
+    Ok(())
+}
+
+fn task_line(table: &Table, fields: &[&[u8]], error: Option<Error>) -> Result<Task, Number> {
+    let too_many = table.tasks.len() == TASKS_MOST;
+    let misplaced = !table.accesses.is_empty();
+    if too_many && !(misplaced && error == Some(Error::LooksAtOrderFirst)) {
+        return Err(10);
+    }
+    if fields.len() != 9 || misplaced {
+        return Err(3);
+    }
     let name = name(fields[1]).ok_or(4u64)?;
     let numbers = numbers(&fields[2..7])?;
     let (positive, others) = numbers.split_at(3);
@@ -81,8 +136,8 @@ fn task_line(line: &[u8], sets: usize, above: &[Task]) -> Result<Task, Number> {
     if too_small || too_large {
         return Err(6);
     }
-    let useful = cache_sets(fields[7], sets).ok_or(7u64)?;
-    let evicting = cache_sets(fields[8], sets).ok_or(7u64)?;
+    let useful = cache_sets(fields[7], table.sets).ok_or(7u64)?;
+    let evicting = cache_sets(fields[8], table.sets).ok_or(7u64)?;
     let task = Task {
         name,
         execution: positive[0],
@@ -96,19 +151,68 @@ fn task_line(line: &[u8], sets: usize, above: &[Task]) -> Result<Task, Number> {
     if task.jitter > task.deadline || task.deadline > task.period {
         return Err(8);
     }
-    if above.iter().any(|earlier| earlier.name == task.name) {
+    if position_of(table, &task.name).is_some() {
         return Err(9);
     }
     Ok(task)
 }
 
-fn fields_of<'a>(line: &'a [u8], mark: &[u8], count: usize) -> Result<Vec<&'a [u8]>, Number> {
-    let fields: Vec<&[u8]> = line.split(|byte| *byte == b'\t').collect();
-    if fields[0] == mark && fields.len() == count {
-        Ok(fields)
-    } else {
-        Err(3)
+fn access_line(table: &Table, fields: &[&[u8]], error: Option<Error>) -> Result<Access, Number> {
+    let too_many = table.accesses.len() == ACCESSES_MOST;
+    if too_many && error != Some(Error::CountsFieldsFirst) {
+        return Err(16);
     }
+    if fields.len() != 5 {
+        return Err(3);
+    }
+    if too_many {
+        return Err(16);
+    }
+    let names = [name(fields[1]).ok_or(4u64)?, name(fields[2]).ok_or(4u64)?];
+    let length = numbers(&fields[3..4])?[0];
+    if length == 0 || length > TIME_MOST {
+        return Err(6);
+    }
+    let useful = cache_sets(fields[4], table.sets).ok_or(7u64);
+    let positions = positions_of(table, &names, error).ok_or(15u64);
+    if error == Some(Error::LooksUpNamesFirst) {
+        positions?;
+    }
+    let useful = useful?;
+    let (task, ceiling) = positions?;
+    let access = Access {
+        task,
+        ceiling,
+        length,
+        useful,
+    };
+    if error == Some(Error::RefusesEqualAccess) && table.accesses.contains(&access) {
+        return Err(9);
+    }
+    Ok(access)
+}
+
+/// Those of an access's task and of its ceiling, which is the same or above it.
+fn positions_of(
+    table: &Table,
+    names: &[String; 2],
+    error: Option<Error>,
+) -> Option<(usize, usize)> {
+    let task = position_of(table, &names[0])?;
+    let ceiling = position_of(table, &names[1])?;
+    let good = match error {
+        Some(Error::RefusesOwnCeiling) => ceiling < task,
+        _ => ceiling <= task,
+    };
+    good.then_some((task, ceiling))
+}
+
+fn position_of(table: &Table, name: &str) -> Option<usize> {
+    table.tasks.iter().position(|task| task.name == name)
+}
+
+fn split(line: &[u8]) -> Vec<&[u8]> {
+    line.split(|byte| *byte == b'\t').collect()
 }
 
 fn name(field: &[u8]) -> Option<String> {
@@ -163,5 +267,19 @@ mod tests {
         for bad in ["", "00", "007", "+4", "-0", " 4", "4 ", "4\r", "1000000000"] {
             assert_eq!(number(bad.as_bytes()), None, "{bad:?}");
         }
+    }
+
+    #[test]
+    fn an_access_names_positions() {
+        let text =
+            b"K\t4\t1\nT\ta\t1\t9\t9\t0\t0\t0\tf\nT\tb\t1\t9\t9\t0\t0\t0\tf\nA\tb\ta\t5\t9\n";
+        let accesses = read(text).expect("a valid table").accesses;
+        let expected = Access {
+            task: 1,
+            ceiling: 0,
+            length: 5,
+            useful: vec![0, 3],
+        };
+        assert_eq!(accesses, [expected]);
     }
 }

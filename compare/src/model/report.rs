@@ -1,5 +1,6 @@
 //! All answers of a table, and their report.
 
+use super::blocking::{blockers, worst, Blocker};
 use super::costs::Reloads;
 use super::response::{Equation, Load};
 use super::{Error, Table, METHODS};
@@ -31,15 +32,31 @@ fn row(table: &Table, reloads: &Reloads, i: usize, error: Option<Error>) -> Row 
         Some(Error::ForgetsOwnJitter) => task.deadline,
         _ => limit,
     };
-    let respond = |count: &dyn Fn(usize) -> usize| {
-        let equation = equation(table, i, count, error);
+    let blockers = blockers(table, i, error);
+    let response = |blocker: &Blocker, count: &dyn Fn(usize) -> usize| {
+        let equation = equation(table, i, blocker, count, error);
         equation.least_response(tested)
     };
-    let by = |method| respond(&|j| reloads.count(method, i, j));
+    let of_each = |method| -> Vec<Option<u64>> {
+        let by = |blocker| response(blocker, &|j| reloads.count(method, i, j, blocker));
+        blockers.iter().map(by).collect()
+    };
+    let by = |method| worst(of_each(method), error);
     let (useful_union, evicting_union) = (by(3), by(4));
     let combined = match error {
         Some(Error::CombinesPerPair) => {
-            respond(&|j| reloads.count(3, i, j).min(reloads.count(4, i, j)))
+            let smaller = |blocker| {
+                let count = |method, j| reloads.count(method, i, j, blocker);
+                response(blocker, &|j| count(3, j).min(count(4, j)))
+            };
+            worst(blockers.iter().map(smaller).collect(), error)
+        }
+        Some(Error::CombinesPerAccess) => {
+            let pairs = of_each(3).into_iter().zip(of_each(4));
+            worst(
+                pairs.map(|(one, other)| smaller(one, other)).collect(),
+                error,
+            )
         }
         _ => smaller(useful_union, evicting_union),
     };
@@ -50,9 +67,11 @@ fn row(table: &Table, reloads: &Reloads, i: usize, error: Option<Error>) -> Row 
     }
 }
 
+/// The equation of the task at `i` while one thing blocks it.
 pub fn equation(
     table: &Table,
     i: usize,
+    blocker: &Blocker,
     count: &dyn Fn(usize) -> usize,
     error: Option<Error>,
 ) -> Equation {
@@ -62,7 +81,7 @@ pub fn equation(
         jitter: above.jitter,
     });
     Equation {
-        own: table.tasks[i].execution + table.tasks[i].blocking,
+        own: table.tasks[i].execution + blocker.length,
         loads: loads.collect(),
         error,
     }

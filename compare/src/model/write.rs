@@ -1,8 +1,8 @@
 //! Writing a table value.
 
 use super::read::read;
-use super::value::{self, Value, EVICTING, NAME, USEFUL};
-use super::{fitting, Error, Refusal, TASKS_MOST};
+use super::value::{self, Value, ACCESS_USEFUL, EVICTING, NAME, USEFUL};
+use super::{fitting, Error, Refusal, ACCESSES_MOST, TASKS_MOST};
 
 /// What the model has to say of one value that is to be written.
 pub struct Writing {
@@ -65,6 +65,11 @@ fn spelled(value: &Value, error: Option<Error>) -> Vec<u8> {
         lines.reverse();
     }
     lines.insert(0, speller.cache_line(value));
+    lines.extend(
+        value
+            .accesses()
+            .map(|place| speller.access_line(value, place)),
+    );
     lines.concat()
 }
 
@@ -98,6 +103,26 @@ impl Speller {
             self.number(place[value::BLOCKING]),
             self.cache_sets(&place[USEFUL]),
             self.cache_sets(&place[EVICTING]),
+        ])
+    }
+
+    /// A position past the last task has no name, and no text is good that lacks one.
+    fn access_line(&self, value: &Value, place: &[u64]) -> Vec<u8> {
+        let named = |field: usize| {
+            let position = (0..value.taken()).find(|task| *task as u64 == place[field]);
+            position.map_or(Vec::new(), |task| name(&value.place(task)[NAME]))
+        };
+        let mut names = [named(value::ACCESS_TASK), named(value::ACCESS_CEILING)];
+        if self.error == Some(Error::WritesCeilingFirst) {
+            names.reverse();
+        }
+        let [task, ceiling] = names;
+        line(vec![
+            b"A".to_vec(),
+            task,
+            ceiling,
+            self.number(place[value::ACCESS_LENGTH]),
+            self.cache_sets(&place[ACCESS_USEFUL]),
         ])
     }
 
@@ -151,6 +176,9 @@ fn overlooking(value: &Value, error: Option<Error>) -> Value {
         Some(Error::OverlooksEqualNames) => make_names_differ(&mut value),
         Some(Error::OverlooksHighMarks) => clear_high_marks(&mut value),
         Some(Error::OverlooksPastEnd) => clear_past_end(&mut value),
+        Some(Error::OverlooksLowCeiling) => raise_ceilings(&mut value),
+        Some(Error::OverlooksBlocking) => clear_blocking(&mut value),
+        Some(Error::OverlooksPastLastAccess) => clear_past_last_access(&mut value),
         _ => {}
     }
     value
@@ -177,6 +205,12 @@ fn clear_high_marks(value: &mut Value) {
             }
         }
     }
+    for index in 0..value.accesses_taken() {
+        let place = value.access_mut(index);
+        for set in sets.min(256)..256 {
+            place[ACCESS_USEFUL][(set / 64) as usize] &= !(1 << (set % 64));
+        }
+    }
 }
 
 fn clear_past_end(value: &mut Value) {
@@ -185,10 +219,38 @@ fn clear_past_end(value: &mut Value) {
     }
 }
 
+fn raise_ceilings(value: &mut Value) {
+    let tasks = value.count();
+    for index in 0..value.accesses_taken() {
+        let place = value.access_mut(index);
+        if place[value::ACCESS_CEILING] < tasks {
+            let task = place[value::ACCESS_TASK];
+            place[value::ACCESS_CEILING] = place[value::ACCESS_CEILING].min(task);
+        }
+    }
+}
+
+fn clear_blocking(value: &mut Value) {
+    if value.access_count() > 0 {
+        for index in 0..value.taken() {
+            let blocking = &mut value.place_mut(index)[value::BLOCKING];
+            if *blocking <= 250_000_000 {
+                *blocking = 0;
+            }
+        }
+    }
+}
+
+fn clear_past_last_access(value: &mut Value) {
+    for index in value.accesses_taken()..ACCESSES_MOST {
+        value.access_mut(index).fill(0);
+    }
+}
+
 #[cfg(test)]
 mod tests {
     use super::*;
-    use crate::figures::{longest_table, table_m, table_p};
+    use crate::figures::{longest_table, longest_with_accesses, table_m, table_p};
 
     fn value_of(text: &[u8]) -> Value {
         Value::of(&read(text).expect("a valid table"))
@@ -204,13 +266,27 @@ mod tests {
             .map_err(|refusal| refusal.code())
     }
 
+    /// Gives the value two accesses of the last task, with the task above and itself as ceilings.
+    fn add_accesses(value: &mut Value) {
+        value.numbers[value::ACCESS_COUNT] = 2;
+        value
+            .access_mut(0)
+            .copy_from_slice(&[2, 1, 77, 0x81, 0, 0, 0]);
+        value.access_mut(1).copy_from_slice(&[2, 2, 5, 0, 0, 0, 0]);
+    }
+
     fn refused(change: impl FnOnce(&mut Value)) -> bool {
         after(None, change) == Err(25 << 32)
     }
 
     #[test]
     fn the_text_comes_back_if_there_is_room() {
-        for text in [table_m(), table_p(), longest_table()] {
+        for text in [
+            table_m(),
+            table_p(),
+            longest_table(),
+            longest_with_accesses(),
+        ] {
             let writing = Writing::of(&value_of(&text), None);
             assert_eq!(writing.text(text.len()), Ok(&text[..]));
             assert_eq!(writing.text(text.len() - 1), Err(Refusal::new(14, 0)));
@@ -246,6 +322,36 @@ mod tests {
     }
 
     #[test]
+    fn accesses_that_cannot_be_spelled_are_refused() {
+        let refused_with = |index: usize, number: u64| {
+            refused(|value| {
+                add_accesses(value);
+                value.numbers[index] = number;
+            })
+        };
+        assert!(!refused_with(value::ACCESS_COUNT, 2));
+        for number in [1, 33, 1 << 32 | 2, u64::MAX] {
+            assert!(refused_with(value::ACCESS_COUNT, number));
+        }
+        for (field, number) in [(0, 0), (0, 3), (1, 3), (1, 32), (0, 1 << 32 | 2)] {
+            assert!(refused_with(value::access_at(0, field), number));
+        }
+        for (field, number) in [(2, 0), (2, 250_000_001), (3, 1 << 8), (6, 1)] {
+            assert!(refused_with(value::access_at(0, field), number));
+        }
+        assert!(refused_with(value::access_at(2, 6), 1));
+        assert!(refused_with(value::at(0, value::BLOCKING), 1));
+    }
+
+    #[test]
+    fn accesses_are_written_with_the_names_of_their_tasks() {
+        let text = after(None, add_accesses).expect("written");
+        assert!(text.ends_with("A\tc\tb\t77\t81\nA\tc\tc\t5\t00\n"));
+        let text = after(Some(Error::WritesCeilingFirst), add_accesses).expect("written");
+        assert!(text.contains("A\tb\tc\t77\t81\n"));
+    }
+
+    #[test]
     fn a_change_that_a_text_may_have_is_written() {
         let higher = after(None, |value| value.numbers[value::SETS] = 12);
         assert!(higher.expect("written").starts_with("K\t12\t1\n"));
@@ -268,7 +374,7 @@ mod tests {
     #[test]
     fn the_errors_write_what_they_overlook_and_nothing_else() {
         type Change = fn(&mut Value);
-        let changes: [(Error, Change); 3] = [
+        let changes: [(Error, Change); 6] = [
             (Error::OverlooksEqualNames, |value| {
                 value.place_mut(1)[0] = u64::from(b'c');
             }),
@@ -277,6 +383,17 @@ mod tests {
             }),
             (Error::OverlooksPastEnd, |value| {
                 value.place_mut(3)[0] = u64::from(b'd');
+            }),
+            (Error::OverlooksLowCeiling, |value| {
+                add_accesses(value);
+                value.access_mut(0)[value::ACCESS_TASK] = 0;
+            }),
+            (Error::OverlooksBlocking, |value| {
+                add_accesses(value);
+                value.place_mut(1)[value::BLOCKING] = 9;
+            }),
+            (Error::OverlooksPastLastAccess, |value| {
+                value.access_mut(0)[value::ACCESS_LENGTH] = 1;
             }),
         ];
         for (error, _) in changes {

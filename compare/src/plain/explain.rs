@@ -1,7 +1,7 @@
 //! The plain version's explanations.
 
-use super::{asked, code, give, intersection, search, size, union};
-use super::{Table, Turns, TASKS_MOST};
+use super::{asked, code, costs, give, intersection, search, size, union, with_access};
+use super::{Access, Table, Turns, TASKS_MOST};
 
 const EXPLANATION_MOST: usize = 1_317;
 
@@ -12,10 +12,13 @@ const FIGURE_MOST: u64 = 250_000_000;
 const WHOLE: u64 = 1 << 34;
 
 /// What an explanation is written from.
+#[derive(Clone)]
 struct Reason {
     method: usize,
     /// 0 for none up to the search's end.
     figure: u64,
+    /// B, or the length of the access that blocks.
+    blocking: u64,
     reloads: [u32; TASKS_MOST],
     /// Positions; of use with methods 2 and 4 only.
     victims: [usize; TASKS_MOST],
@@ -59,32 +62,65 @@ fn of_combined(table: &Table, i: usize, turns: &mut Turns) -> Reason {
     }
 }
 
-/// By one of the methods 0 to 4, with the figure if it is not above `end`.
+/// By one of the methods 0 to 4, with the figure if it is not above `end`: of the first access with
+/// the largest one, or with the task's own B.
 fn reason(table: &Table, method: usize, i: usize, end: u64, turns: &mut Turns) -> Reason {
-    let mut reason = Reason {
+    let mut plain = Reason {
         method,
         figure: 0,
+        blocking: table.tasks[i].blocking,
         reloads: [0; TASKS_MOST],
         victims: [0; TASKS_MOST],
     };
-    fill_in_reloads(table, i, &mut reason);
-    let mut each = [0; TASKS_MOST];
-    let above = table.tasks[..i].iter().zip(&reason.reloads);
-    for (each, (task, reloads)) in each.iter_mut().zip(above) {
-        *each = task.execution + table.reload_time * u64::from(*reloads);
+    fill_in_reloads(table, i, &mut plain);
+    let mut largest: Option<Reason> = None;
+    for access in table.accesses.iter().filter(|access| access.may_block(i)) {
+        let mut blocked = plain.clone();
+        put_access_in(table, i, access, &mut blocked);
+        blocked.figure = figure(table, i, &blocked, end, turns);
+        if blocked.figure == 0 {
+            return blocked;
+        }
+        if largest
+            .as_ref()
+            .map_or(true, |largest| largest.figure < blocked.figure)
+        {
+            largest = Some(blocked);
+        }
     }
-    if let Some(start) = nothing_below(table, i, &each) {
-        reason.figure = search(table, i, &each, start, end, turns);
+    largest.unwrap_or_else(|| {
+        plain.figure = figure(table, i, &plain, end, turns);
+        plain
+    })
+}
+
+/// The access is the victim only where it has more to reload than every task has.
+fn put_access_in(table: &Table, i: usize, access: &Access, reason: &mut Reason) {
+    let reloads = with_access(table, reason.method, i, access, reason.reloads);
+    let counts = reason.reloads.iter().zip(&reloads);
+    for (victim, (before, after)) in reason.victims.iter_mut().zip(counts) {
+        if after > before {
+            *victim = access.task;
+        }
     }
-    reason
+    reason.reloads = reloads;
+    reason.blocking = access.length;
+}
+
+fn figure(table: &Table, i: usize, reason: &Reason, end: u64, turns: &mut Turns) -> u64 {
+    let own = table.tasks[i].execution + reason.blocking;
+    let each = costs(table, i, &reason.reloads);
+    match nothing_below(table, i, own, &each) {
+        Some(start) => search(table, i, own, &each, start, end, turns),
+        None => 0,
+    }
 }
 
 /// A number that no solution is below, or nothing where there is none up to the search's end.
 ///
 /// The shares are rounded down. Where they would come to the whole processor without that, so
 /// little of it is left that the number is past the search's end.
-fn nothing_below(table: &Table, i: usize, each: &[u64; TASKS_MOST]) -> Option<u64> {
-    let mut own = table.tasks[i].own();
+fn nothing_below(table: &Table, i: usize, mut own: u64, each: &[u64; TASKS_MOST]) -> Option<u64> {
     let mut left = WHOLE;
     for (task, each) in table.tasks[..i].iter().zip(each) {
         if task.activations(FIGURE_MOST) == 1 {
@@ -152,7 +188,7 @@ fn write(table: &Table, i: usize, reason: &Reason, out: &mut [u8]) -> u64 {
         0 => written.bytes(b"\tbeyond"),
         figure => written.number(figure),
     }
-    for number in [task.deadline - task.jitter, task.execution, task.blocking] {
+    for number in [task.deadline - task.jitter, task.execution, reason.blocking] {
         written.number(number);
     }
     written.bytes(b"\n");

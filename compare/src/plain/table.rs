@@ -1,15 +1,18 @@
 //! The plain version's writing of tables.
 
-use super::{code, give, in_order, in_range, is_cache, is_name, read};
-use super::{Table, Task, Words, TASKS_MOST};
+use super::reading::{in_order, in_range, is_cache, is_length, is_name, read};
+use super::{code, give, Access, Table, Task, Words, ACCESSES_MOST, TASKS_MOST};
 use std::fmt::{Result, Write};
 
-const TABLE_TEXT_MOST: usize = 6_253;
+const TABLE_TEXT_MOST: usize = 9_293;
 
-/// How many numbers of a value belong to the whole table, and how many to each place.
+/// How many numbers of a value belong to the whole table, how many to each place of a task and how
+/// many to each place of an access. Before the accesses stands their number.
 const OF_TABLE: usize = 3;
 const OF_PLACE: usize = 25;
-const NUMBERS: usize = OF_TABLE + TASKS_MOST * OF_PLACE;
+const OF_ACCESS: usize = 7;
+const OF_TASKS: usize = OF_TABLE + TASKS_MOST * OF_PLACE;
+const NUMBERS: usize = OF_TASKS + 1 + ACCESSES_MOST * OF_ACCESS;
 
 pub fn rewrite(text: &[u8], out: &mut [u8]) -> u64 {
     match read(text) {
@@ -39,7 +42,7 @@ fn write(table: &Table, out: &mut [u8]) -> u64 {
 pub fn spell(table: &Table, to: &mut String) -> Result {
     writeln!(to, "K\t{}\t{}", table.sets, table.reload_time)?;
     for task in &table.tasks {
-        let name = std::str::from_utf8(task.name()).expect("a name is ASCII");
+        let name = name_of(task);
         write!(
             to,
             "T\t{name}\t{}\t{}\t{}\t{}\t{}",
@@ -49,7 +52,18 @@ pub fn spell(table: &Table, to: &mut String) -> Result {
         spell_sets(table.sets, task.evicting, to)?;
         to.push('\n');
     }
+    for access in &table.accesses {
+        let (task, ceiling) = (&table.tasks[access.task], &table.tasks[access.ceiling]);
+        let (task, ceiling) = (name_of(task), name_of(ceiling));
+        write!(to, "A\t{task}\t{ceiling}\t{}", access.length)?;
+        spell_sets(table.sets, access.useful, to)?;
+        to.push('\n');
+    }
     Ok(())
+}
+
+fn name_of(task: &Task) -> &str {
+    std::str::from_utf8(task.name()).expect("a name is ASCII")
 }
 
 /// A tab and a digit for each four sets.
@@ -67,28 +81,55 @@ fn spell_sets(sets: usize, words: Words, to: &mut String) -> Result {
 
 /// The table of a value, if a text gives it.
 fn table_of(numbers: &[u64]) -> Option<Table> {
-    let (of_table, places) = numbers.split_at(OF_TABLE);
+    let (of_tasks, of_accesses) = numbers.split_at(OF_TASKS);
+    let (of_table, places) = of_tasks.split_at(OF_TABLE);
     let (sets, reload_time, count) = (of_table[0], of_table[1], of_table[2]);
-    if !is_cache(sets, reload_time) || !(1..=TASKS_MOST as u64).contains(&count) {
-        return None;
-    }
-    let (taken, free) = places.split_at(count as usize * OF_PLACE);
-    if free.iter().any(|number| *number != 0) {
+    if !is_cache(sets, reload_time) || count == 0 {
         return None;
     }
     let mut table = Table {
         sets: sets as usize,
         reload_time,
         tasks: Vec::with_capacity(TASKS_MOST),
+        accesses: Vec::new(),
     };
-    for place in taken.chunks_exact(OF_PLACE) {
+    for place in taken(places, count, OF_PLACE)? {
         let task = task_of(place, table.sets)?;
-        if table.has(task.name()) {
+        if table.position(task.name()).is_some() {
             return None;
         }
         table.tasks.push(task);
     }
-    Some(table)
+    for place in taken(&of_accesses[1..], of_accesses[0], OF_ACCESS)? {
+        table.accesses.push(access_of(place, &table)?);
+    }
+    match table.blocked_twice() {
+        Some(_) => None,
+        None => Some(table),
+    }
+}
+
+/// The first `count` places, if there are so many and the others are empty.
+fn taken(places: &[u64], count: u64, of_place: usize) -> Option<std::slice::ChunksExact<'_, u64>> {
+    let end = usize::try_from(count).ok()?.checked_mul(of_place)?;
+    let free = places.get(end..)?;
+    let empty = free.iter().all(|number| *number == 0);
+    empty.then(|| places[..end].chunks_exact(of_place))
+}
+
+fn access_of(place: &[u64], table: &Table) -> Option<Access> {
+    let [task, ceiling, length] = [place[0], place[1], place[2]];
+    let useful = place[3..7].try_into().ok()?;
+    let good = task < table.tasks.len() as u64
+        && ceiling <= task
+        && is_length(length)
+        && fits(useful, table.sets);
+    good.then_some(Access {
+        task: task as usize,
+        ceiling: ceiling as usize,
+        length,
+        useful,
+    })
 }
 
 fn task_of(place: &[u64], sets: usize) -> Option<Task> {

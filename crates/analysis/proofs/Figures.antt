@@ -8,9 +8,10 @@ use Rattle.demand.specs.Positions.{run, fold}
 use Rattle.demand.specs.Demand.{demandOf}
 use Rattle.demand.specs.Least.{firstOf, leastOf}
 use Rattle.table.specs.Tasks.{at}
-use Rattle.costs.specs.Costs.{reloadsOf, chargeAt, termAt}
+use Rattle.costs.specs.Costs.{reloadsOf, reloadsWith, chargeAt, termAt}
 use Rattle.costs.specs.declared.Charge.{Charge}
 use Rattle.tasks.specs.Tasks.{ownOf}
+use Rattle.accesses.specs.Accesses.{blocking}
 use Rattle.analysis.specs.Analysis.{answerOf, responseOf}
 use Rattle.analysis.specs.Figures.{Figure, figures, ChargeFigure, chargeFigures, P}
 
@@ -22,7 +23,7 @@ pub figures-hold :
     (map found figures ≡ map (λ (f : Figure). f .answer) figures)
     × (demandOf (ownOf (at (P 0 8 0 0) 1)) (termAt (P 0 8 0 0) 0 1) 1 7 ≡ 7)
     × (demandOf (ownOf (at (P 0 8 0 0) 1)) (termAt (P 0 8 0 0) 0 1) 1 6 ≡ 7)
-unfolding responseOf answerOf leastOf firstOf demandOf reloadsOf at run fold ∅ _∪_ _∩_ sizeBelow size numberOf members
+unfolding responseOf answerOf blocking leastOf firstOf demandOf reloadsOf reloadsWith at run fold ∅ _∪_ _∩_ sizeBelow size numberOf members
 figures-hold = (refl, refl, refl)
 
 abbrev chargeFound : ChargeFigure → Charge

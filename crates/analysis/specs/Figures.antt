@@ -7,6 +7,7 @@ use Rattle.units.specs.declared.Ticks.{Ticks}
 use Rattle.demand.specs.declared.Response.{Response}
 use Rattle.demand.specs.declared.Response.the-variants.{Within, Unschedulable}
 use Rattle.tasks.specs.declared.Task.{Task}
+use Rattle.accesses.specs.declared.Access.{Access}
 use Rattle.table.specs.declared.Table.{Table}
 use Rattle.costs.specs.declared.Charge.{Charge}
 use Rattle.costs.specs.declared.Charge.the-variants.{Victim}
@@ -33,9 +34,24 @@ task c t d j b u e = record {
   ecb = oneWord e;
 }
 
--- sets, BRT, tasks
+-- positions of the task and of the ceiling, length, UCB
+abbrev access : ℕ → ℕ → ℕ → ℕ → Access
+access k h l u = record { task = k; ceiling = h; lasts = ticks l; ucb = oneWord u }
+
+-- sets, BRT, tasks, accesses
+abbrev tableWith : ℕ → ℕ → List Task → List Access → Table
+tableWith sets brt ts accesses = record {
+  sets = sets;
+  brt = ticks brt;
+  count = length ts;
+  tasks = ts;
+  «access_count» = length accesses;
+  accesses = accesses;
+}
+
+-- without accesses
 abbrev tableOf : ℕ → ℕ → List Task → Table
-tableOf sets brt ts = record { sets = sets; brt = ticks brt; count = length ts; tasks = ts }
+tableOf sets brt ts = tableWith sets brt ts []
 
 -- tables A, B and M, with D of c
 abbrev A : ℕ → Table
@@ -50,6 +66,30 @@ M = tableOf 8 1 (task 1 20 20 0 0 0x00 0x0f ∷ task 2 40 40 0 0 0x03 0x30 ∷ t
 -- table P, with J of a, and D, J and B of b
 abbrev pub P : ℕ → ℕ → ℕ → ℕ → Table
 P ja d j b = tableOf 4 0 (task 2 5 5 ja 0 0 0 ∷ task 3 8 d j b 0 0 ∷ [])
+
+-- table S: an access of c, whose ceiling is b, is pre-empted by a, which evicts what the access uses. Its length and its UCB
+abbrev S : ℕ → ℕ → Table
+S l u = tableWith 4 1 (task 1 20 20 0 0 0x0 0xf ∷ task 2 40 40 0 0 0x0 0x0 ∷ task 2 60 60 0 0 0x0 0x0 ∷ []) (access 2 1 l u ∷ [])
+
+-- the same with two accesses
+abbrev S2 : Table
+S2 = tableWith 4 1 (task 1 20 20 0 0 0x0 0xf ∷ task 2 40 40 0 0 0x0 0x0 ∷ task 2 60 60 0 0 0x0 0x0 ∷ []) (access 2 1 4 0x0 ∷ access 2 1 3 0xf ∷ [])
+
+-- table P with a task more, which blocks b for so long by an access without marks
+abbrev PA : ℕ → Table
+PA l = tableWith 4 0 (task 2 5 5 0 0 0 0 ∷ task 3 8 8 0 0 0 0 ∷ task 1 100 100 0 0 0 0 ∷ []) (access 2 1 l 0x0 ∷ [])
+
+-- four tasks: an access of d with the ceiling at h may block c; a and b evict all that it uses
+abbrev H : ℕ → Table
+H h =
+    tableWith 4 1 (task 1 20 20 0 0 0x0 0xf ∷ task 1 40 40 0 0 0x0 0xf ∷ task 2 60 60 0 0 0x0 0xf ∷ task 2 80 80 0 0 0x0 0xf ∷ [])
+    (access 3 h 3 0x7 ∷ [])
+
+-- table W, with D of c: UCB-Union is latest while the first access of d blocks c, and ECB-Union while the second does
+abbrev W : ℕ → Table
+W d =
+    tableWith 8 1 (task 1 100 100 0 0 0x00 0xf0 ∷ task 2 200 200 0 0 0x00 0x0f ∷ task 3 300 d 0 0 0x03 0x00 ∷ task 4 400 400 0 0 0x00 0x00 ∷ [])
+    (access 3 2 8 0x0c ∷ access 3 2 5 0x70 ∷ [])
 
 -- the answer for the task at `position` of `table` under `method` is `answer`
 pub record Figure : Type 0 where
@@ -75,6 +115,12 @@ figures =
     ∷ answers (P 1 8 0 0) 0 1 7 ∷ noAnswer (P 1 7 1 0) 0 1
     ∷ answers (P 0 8 0 1) 0 1 8
     ∷ noAnswer (P 0 8 8 0) 0 1
+    ∷ answers (S 3 0x3) 0 1 6 ∷ answers (S 3 0x3) 1 1 10 ∷ answers (S 3 0x3) 2 1 8 ∷ answers (S 3 0x3) 3 1 8 ∷ answers (S 3 0x3) 4 1 8 ∷ answers (S 3 0x3) 5 1 8
+    ∷ answers (S 3 0x0) 2 1 6 ∷ answers (S 3 0x0) 3 1 6 ∷ answers (S 3 0x0) 4 1 6 ∷ answers (S 3 0x3) 5 0 1
+    ∷ answers S2 0 1 7 ∷ answers S2 3 1 10 ∷ answers S2 4 1 10
+    ∷ answers (PA 1) 0 1 8
+    ∷ answers (H 0) 4 2 7 ∷ answers (H 1) 4 2 10 ∷ answers (H 2) 4 2 13
+    ∷ answers (W 300) 3 2 18 ∷ answers (W 300) 4 2 17 ∷ answers (W 300) 5 2 17 ∷ noAnswer (W 16) 5 2
     ∷ []
 
 -- ---- whom the pre-emptions hit

@@ -1,5 +1,5 @@
 -- What may be used of a board that is lent: the ranges that the reader asks for. Assumes nothing.
-use Prim.Native.Nat.{ℕ, _≤_, _<_}
+use Prim.Native.Nat.{ℕ, _+_, _≤_, _<_}
 use native.Mathlib.Omega.{arith}
 use mathlib.Core.Path.{_≡_}
 use mathlib.Core.List.{List}
@@ -12,7 +12,10 @@ pub record Ranged (board : List ℕ) (k : ℕ) : Type 0 where
   pub period : 1 ≤ periodIn board k
   pub period-most : periodIn board k ≤ 250000000
   pub jitter : jitterIn board k ≤ periodIn board k
+  pub work-least : 1 ≤ workOn board k
   pub work : workOn board k ≤ 250000000
+  pub work-own : workOn board k ≤ ownOn board k
+  pub blocked : ownOn board k ≤ workOn board k + 250000000
   pub own : 1 ≤ ownOn board k
   pub own-most : ownOn board k ≤ 500000000
   pub limit : limitOn board k ≤ 250000000
@@ -36,7 +39,10 @@ module _ {board : List ℕ} {n : ℕ} (lent : Lent board n) where
         period = omega (arith, s .period, q .period);
         period-most = omega (arith, s .period, q .period);
         jitter = omega (arith, s .period, s .jitter, q .jitter, q .deadline);
+        work-least = omega (arith, s .work, q .work);
         work = omega (arith, s .work, q .work);
+        work-own = omega (arith, s .work, s .own);
+        blocked = omega (arith, s .work, s .own, q .blocking);
         own = omega (arith, s .own, q .work, q .blocking);
         own-most = omega (arith, s .own, q .work, q .blocking);
         limit = omega (arith, s .limit, q .deadline, q .period);

@@ -7,23 +7,26 @@ use borrow.Author.Count.{below-more}
 use lib.ListN.{length, getD, set, length-set}
 use lib.Seq.{getD-set-same, getD-set-other}
 use Rattle.sets.specs.declared.CacheSet.{CacheSet}
-use Rattle.sets.specs.Sets.{Set, _∩_, size}
+use Rattle.sets.specs.Sets.{Set, _∪_, _∩_, size}
 use Rattle.sets.specs.Words.{members}
 use Rattle.sets.specs.Stored.{heldAt, storedAt}
 use Rattle.sets.proofs.SetLaws.{size-le}
 use Rattle.sets.proofs.WordLaws.{members-empty}
 use Rattle.sets.proofs.StoredLaws.{stored-long, stored-same, stored-other, stored-beside, held-beside}
 use Rattle.tasks.specs.Tasks.{noSets}
+use Rattle.accesses.specs.declared.Access.{Access}
+use Rattle.accesses.specs.Accesses.{addedBy}
+use Rattle.accesses.proofs.AddedLaws.{added-above}
 use Rattle.demand.specs.Positions.{hp}
 use Rattle.board.specs.Board.{workOn, brtOn, ucbOn, ecbOn}
 use Rattle.carried.specs.declared.Gathered.{Gathered}
 use Rattle.costs.specs.declared.Hit.{Hit}
 use Rattle.costs.specs.declared.Charge.{Charge}
-use Rattle.costs.specs.Gather.{aff, unionOf, hit, largestAt}
+use Rattle.costs.specs.Gather.{aff, unionOf, hit, largerOf, largestAt}
 use Rattle.costs.specs.Listed.{hitPut}
-use Rattle.costs.specs.Costs.{noVictim, charges, reloadsIn, reloadsOf, weightOn}
+use Rattle.costs.specs.Costs.{noVictim, charges, reloadsIn, reloadsOf, weightOn, chargesWith, reloadsWith, weightOnUnder}
 use Rattle.costs.proofs.UnionLaws.{union-none, union-next}
-use Rattle.costs.proofs.HitLaws.{hit-none, hit-next, largest-from}
+use Rattle.costs.proofs.HitLaws.{larger-most, hit-none, hit-next, largest-from}
 use Rattle.costs.proofs.ListedLaws.{hit-long, hit-same, hit-beside}
 use Rattle.costs.proofs.CostLaws.{hit-most}
 use Rattle.carried.specs.Carried.{Next, Carried, Small, chargesFor, countFor, aboveOn, allAt, evictingOn, mostAt, sharedAt, gatheredOn, gatheredPut}
@@ -221,3 +224,31 @@ pair-weighed board i j evicting g h c e p =
     put-as p (λ m b q. ap (λ (cs : List Charge). workOn board j + brtOn board * reloadsIn (getD cs m (noVictim 0)))
     (charged (ucbOn board) _ j (ecbOn board) evicting i g h c e refl)
     ∙ ap (λ (b : ℕ). weightOn board m i b) (sym (q .1)))
+
+-- those of one task while an access blocks
+pub pair-under : (board : List ℕ) (a : Access) (i j : ℕ) (evicting : Set) (g r : Gathered) {x y : List ℕ} → j < i → j < a .ceiling
+    → Carried (ucbOn board) (unionOf (ecbOn board) (hp (j + 1))) j (i + 1) g → Next g (members (a .ucb)) (unionOf (ecbOn board) (hp (j + 1))) (a .task) r
+    → evicting ≡ ecbOn board j
+    → Put (InPair j 5) (λ m _. workOn board j + brtOn board * countFor evicting r m) x y
+    → Put (InPair j 5) (λ m b. weightOnUnder board a m i b) x y
+unfolding reloadsWith
+pair-under board a i j evicting g r h l c n e p =
+    put-as p (λ m b q. ap (λ (cs : List Charge). workOn board j + brtOn board * reloadsIn (getD cs m (noVictim 0))) same
+    ∙ ap (λ (b : ℕ). weightOnUnder board a m i b) (sym (q .1)))
+  where
+    same : chargesFor evicting r ≡ chargesWith (ucbOn board) (ecbOn board) (addedBy a j) (a .task) i j
+    same =
+        let added = added-above a j l in
+        let most = n .most ∙ ap (λ (h : Hit). largerOf h (hit (size (members (a .ucb))) (a .task))) (c .most ∙ largest-from _ (j + 1) (i + 1) (omega arith)) in
+        let all = n .all ∙ ap (λ (A : Set). A ∪ members (a .ucb)) (c .all) in
+        let shared =
+        n .shared
+        ∙ ap (λ (h : Hit). largerOf h (hit (size (members (a .ucb) ∩ unionOf (ecbOn board) (hp (j + 1)))) (a .task))) (c .shared ∙ largest-from _ (j + 1) (i + 1) (omega arith)) in
+        cc
+
+-- what one set more leaves small
+pub next-small : (g r : Gathered) (ucb above : Set) (k : ℕ) → Small g → Next g ucb above k r → Small r
+next-small g r ucb above k s n = record {
+  most = rw (n .most) (larger-most _ _ (s .most) (omega (arith, size-le ucb)));
+  shared = rw (n .shared) (larger-most _ _ (s .shared) (omega (arith, size-le (ucb ∩ above))));
+}

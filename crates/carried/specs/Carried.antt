@@ -17,13 +17,14 @@ use Rattle.sets.specs.Sets.{Set, _∪_, _∩_, size}
 use Rattle.sets.specs.Words.{members}
 use Rattle.sets.specs.Stored.{heldAt, storedAt, setAt}
 use Rattle.demand.specs.Positions.{between, hp}
+use Rattle.accesses.specs.declared.Access.{Access}
 use Rattle.board.specs.Board.{ucbOn, ecbOn}
 use Rattle.carried.specs.declared.Gathered.{Gathered}
 use Rattle.costs.specs.declared.Charge.{Charge}
 use Rattle.costs.specs.declared.Charge.the-variants.{Victim}
 use Rattle.costs.specs.Gather.{unionOf, hit, largerOf, largestFrom}
 use Rattle.costs.specs.Listed.{hitOn, hitPut}
-use Rattle.costs.specs.Costs.{noVictim, reloadsIn, weightOn}
+use Rattle.costs.specs.Costs.{noVictim, reloadsIn, weightOn, weightOnUnder}
 
 -- ---- what is gathered for a task
 
@@ -116,10 +117,18 @@ InPair j n m b = (m < n) × (b ≡ j)
 abbrev pub InRow : ℕ → ℕ → ℕ → Type 0
 InRow n m b = (m ≤ 4) × (b < n)
 
--- a list that has the weights of row i
-pub record Weighed (board : List ℕ) (i : ℕ) (weights : List ℕ) : Type 0 where
+-- a list that has these weights of row i
+pub record HasWeights (w : ℕ → ℕ → ℕ) (i : ℕ) (weights : List ℕ) : Type 0 where
   pub long : length weights ≡ 160
-  pub each : (m j : ℕ) → m ≤ 4 → j < i → getD weights (weightAt m j) 0 ≡ weightOn board m i j
+  pub each : (m j : ℕ) → m ≤ 4 → j < i → getD weights (weightAt m j) 0 ≡ w m j
+
+-- those that the board gives
+abbrev pub Weighed : List ℕ → ℕ → List ℕ → Type 0
+Weighed board i = HasWeights (λ m j. weightOn board m i j) i
+
+-- those that it gives while an access blocks i
+abbrev pub WeighedUnder : List ℕ → Access → ℕ → List ℕ → Type 0
+WeighedUnder board a i = HasWeights (λ m j. weightOnUnder board a m i j) i
 
 -- the weights of row i, and the ledger carried past it
 pub record RowWeighed (board : List ℕ) (i : ℕ) (ledger weights : List ℕ) : Type 0 where

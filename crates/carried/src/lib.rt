@@ -1,5 +1,6 @@
 // What pre-emption costs, carried down the rows of a report, so that no row gathers again what the row above it has. specs/Carried.antt says what
 // stands where on the ledger, and what the weights of a row are.
+use accesses::Access;
 use board::BRT;
 use board::ECBS;
 use board::UCBS;
@@ -11,12 +12,12 @@ use units::Ticks;
 ghost use mathlib.Core.Path.{_≡_};
 ghost use Prim.Native.Nat.{_+_, _*_, _<_, _≤_};
 ghost use lib.ListN.{length, set};
-ghost use Rattle.sets.specs.Sets.{size};
+ghost use Rattle.sets.specs.Sets.{_∩_, size};
 ghost use Rattle.sets.specs.Words.{members};
 ghost use Rattle.demand.specs.Positions.{hp};
 ghost use Rattle.board.specs.Board.{ecbOn, Lent};
-ghost use Rattle.costs.specs.Gather.{unionOf};
-ghost use Rattle.carried.specs.Carried.{Next, Small, countFor, gatheredOn, gatheredPut, Ledger, Passing, weightAt, Put, InPair, RowWeighed};
+ghost use Rattle.costs.specs.Gather.{unionOf, hit, largerOf};
+ghost use Rattle.carried.specs.Carried.{Next, Small, countFor, gatheredOn, gatheredPut, Ledger, Passing, weightAt, Put, InPair, Weighed, WeighedUnder, RowWeighed};
 
 // How many numbers a ledger has.
 pub const LEDGER: usize = 416;
@@ -44,6 +45,24 @@ struct Gathered {
     shared: Hit,
 }
 
+// The larger of a hit and what a UCB shares with the ECBs. It shares no more than its size, `useful`, so where that is not larger nothing is worked out.
+fn most_shared(most: Hit, ucb: CacheSet, useful: Hit, above: CacheSet) -> Hit
+    requires { ⌜ useful .reloads .0 ≡ size (members ucb) ⌝ }
+    ensures { λ r. ⌜ r ≡ largerOf most (hit (size (members ucb ∩ members above)) (useful .victim)) ⌝ }
+{
+    if useful.reloads.0 <= most.reloads.0 {
+        return most;
+    }
+    let reloads = ucb.shared_size(useful.reloads, above);
+    costs::larger(
+        most,
+        Hit {
+            reloads,
+            victim: useful.victim,
+        },
+    )
+}
+
 // One row more: `ucb` is its task's UCB, and `useful` the size of that with the task's position.
 fn gather(gathered: Gathered, ucb: CacheSet, useful: Hit, above: CacheSet) -> Gathered
     requires { ⌜ useful .reloads .0 ≡ size (members ucb) ⌝ }
@@ -51,14 +70,7 @@ fn gather(gathered: Gathered, ucb: CacheSet, useful: Hit, above: CacheSet) -> Ga
 {
     let all = gathered.all.union(ucb);
     let most = costs::larger(gathered.most, useful);
-    let reloads = ucb.shared_size(useful.reloads, above);
-    let shared = costs::larger(
-        gathered.shared,
-        Hit {
-            reloads,
-            victim: useful.victim,
-        },
-    );
+    let shared = most_shared(gathered.shared, ucb, useful, above);
     Gathered { most, all, shared }
 }
 
@@ -168,4 +180,33 @@ pub fn weigh_row(board: &[u64], i: usize, ledger: &mut [u64; LEDGER], weights: &
         put_pair(weights, j, work, evictor, evicting, next, brt);
     }
     add_column(board, i, ledger);
+}
+
+// Makes the weights of row i, of which the ledger is carried past it, those while an access blocks the task at i: for the tasks above its ceiling its UCB is
+// gathered, too.
+pub fn weigh_access(
+    board: &[u64],
+    i: usize,
+    ledger: &[u64],
+    access: Access,
+    weights: &mut [u64; WEIGHTS],
+)
+    requires { ⌜ (access .ceiling ≤ i) × Lent (now board) (i + 1) × Ledger (now board) (i + 1) (now ledger) × Weighed (now board) i (now weights) ⌝ }
+    ensures { λ _. ⌜ WeighedUnder (now (board .entry)) access i (now (weights .exit)) ⌝ }
+{
+    let brt = Ticks(board[BRT]);
+    let useful = Hit {
+        reloads: access.ucb.size(),
+        victim: access.task,
+    };
+    let ceiling = access.ceiling;
+    for j in 0..ceiling {
+        let above = CacheSet::at(ledger, j);
+        let gathered = gathered_for(ledger, j);
+        let next = gather(gathered, access.ucb, useful, above);
+        let work = Ticks(board[WORKS + j]);
+        let evictor = CacheSet::at(board, ECBS + j);
+        let evicting = Reloads(ledger[EVICTING + j]);
+        put_pair(weights, j, work, evictor, evicting, next, brt);
+    }
 }

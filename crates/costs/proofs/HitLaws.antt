@@ -14,7 +14,7 @@ use Rattle.costs.specs.declared.Hit.{Hit}
 use Rattle.costs.specs.Gather.{largestOf, hit, largerOf, largestFrom, largestAt, FirstLargest}
 
 -- what holds of either where it is the larger
-larger-by : (P : Hit → Type 0) (a b : Hit) → (a .reloads .0 < b .reloads .0 → P b) → (b .reloads .0 ≤ a .reloads .0 → P a) → P (largerOf a b)
+pub larger-by : (P : Hit → Type 0) (a b : Hit) → (a .reloads .0 < b .reloads .0 → P b) → (b .reloads .0 ≤ a .reloads .0 → P a) → P (largerOf a b)
 larger-by P a b second first = go (ltb (a .reloads .0) (b .reloads .0)) refl
   where
     go : (t : Bool) → ltb (a .reloads .0) (b .reloads .0) ≡ t → P (cond t b a)
@@ -22,7 +22,7 @@ larger-by P a b second first = go (ltb (a .reloads .0) (b .reloads .0)) refl
     go false e = first (ltb-false _ _ e)
 
 -- which of two is the larger
-larger-first : (a b : Hit) → b .reloads .0 ≤ a .reloads .0 → largerOf a b ≡ a
+pub larger-first : (a b : Hit) → b .reloads .0 ≤ a .reloads .0 → largerOf a b ≡ a
 larger-first a b l = larger-by (λ h. h ≡ a) a b (λ less. absurd (omega arith)) (λ _. refl)
 
 larger-second : (a b : Hit) → a .reloads .0 < b .reloads .0 → largerOf a b ≡ b
@@ -35,12 +35,19 @@ larger-assoc a b c =
     (λ l. sym (larger-second a (largerOf b c) (larger-by (λ h. a .reloads .0 < h .reloads .0) b c (λ m. omega arith) (λ m. l))))
     (λ l. larger-by (λ h. largerOf a c ≡ largerOf a h) b c (λ m. refl) (λ m. larger-first a c (omega arith) ∙ sym (larger-first a b l)))
 
+-- its count is the larger of the two
+larger-count : (a b : Hit) → largerOf a b .reloads .0 ≡ max (a .reloads .0) (b .reloads .0)
+larger-count a b = larger-by (λ h. h .reloads .0 ≡ max (a .reloads .0) (b .reloads .0)) a b (λ l. omega arith) (λ l. omega arith)
+
+pub larger-most : (a b : Hit) {most : ℕ} → a .reloads .0 ≤ most → b .reloads .0 ≤ most → largerOf a b .reloads .0 ≤ most
+larger-most a b p q = omega (arith, larger-count a b)
+
+pub larger-grows : (a b c d : Hit) → a .reloads .0 ≤ c .reloads .0 → b .reloads .0 ≤ d .reloads .0 → largerOf a b .reloads .0 ≤ largerOf c d .reloads .0
+larger-grows a b c d p q = omega (arith, larger-count a b, larger-count c d)
+
 -- the count of the pair is the largest value, over any positions
 pub largest-count : (p : ℕ) (F : ℕ → ℕ) (ks : List ℕ) → largestFrom p F ks .reloads .0 ≡ largestOf F ks
-largest-count p F ks =
-    fold-part largerOf max (λ h. h .reloads .0)
-    (λ a b. larger-by (λ h. h .reloads .0 ≡ max (a .reloads .0) (b .reloads .0)) a b (λ l. omega arith) (λ l. omega arith))
-    (hit 0 p) (λ k. hit (F k) k) ks
+largest-count p F ks = fold-part largerOf max (λ h. h .reloads .0) larger-count (hit 0 p) (λ k. hit (F k) k) ks
 
 pub hit-grows : (p q : ℕ) (F G : ℕ → ℕ) (ks ls : List ℕ) → largestOf F ks ≤ largestOf G ls
     → largestFrom p F ks .reloads .0 ≤ largestFrom q G ls .reloads .0

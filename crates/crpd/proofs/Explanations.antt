@@ -11,13 +11,14 @@ use Rattle.sets.specs.Field.{readSet}
 use Rattle.sets.specs.Sets.{∅, _∪_, _∩_, sizeBelow, size}
 use Rattle.sets.specs.Words.{numberOf, members, wordsOf}
 use Rattle.tasks.specs.Said.{headSaid, timesSaid, fieldsSaid, taskSaid}
-use Rattle.faults.specs.Faults.{firstFault, textFault, headInRange, headFault, taskInRange, taskInOrder, knows, taskFault, endFault}
-use Rattle.table.specs.Reading.{readFrom, readLines, readText}
+use Rattle.faults.specs.Faults.{firstFault, textFault, headInRange, headFault, taskInRange, taskInOrder, knows, taskFault, endFault, blockedFault}
+use Rattle.table.specs.Reading.{lineFault, withLine, readFrom, readLines, readText}
 use Rattle.table.specs.Tasks.{at, withTask}
 use Rattle.demand.specs.Demand.{demandOf}
 use Rattle.demand.specs.Least.{firstOf, leastOf}
 use Rattle.demand.specs.Positions.{run, fold}
-use Rattle.costs.specs.Costs.{reloadsOf}
+use Rattle.accesses.specs.Accesses.{blocking}
+use Rattle.costs.specs.Costs.{reloadsWith}
 use Rattle.need.specs.Needs.{neededOf, needOf}
 use Rattle.writer.specs.Text.{digitsOf, spelled}
 use Rattle.explanation.specs.Explanation.{needLine, reasonLine, explanationOf}
@@ -34,7 +35,7 @@ pub explained-of-table-a : explained text 5 2
     (88 ∷ 9 ∷ 99 ∷ 9 ∷ 52 ∷ 9 ∷ 57 ∷ 9 ∷ 54 ∷ 48 ∷ 9 ∷ 50 ∷ 9 ∷ 48 ∷ 10 ∷
     73 ∷ 9 ∷ 97 ∷ 9 ∷ 49 ∷ 9 ∷ 50 ∷ 9 ∷ 98 ∷ 10 ∷
     73 ∷ 9 ∷ 98 ∷ 9 ∷ 49 ∷ 9 ∷ 50 ∷ 9 ∷ 99 ∷ 10 ∷ [])
-unfolding everyByte sameBytes upTo after occurrences pastTabs field lines readDigits readNumber hasShape isName hexDigit readHex bind readSet ∅ _∪_ _∩_ sizeBelow size numberOf members wordsOf firstFault textFault headInRange headFault taskInRange taskInOrder knows taskFault endFault readFrom readLines readText headSaid timesSaid fieldsSaid taskSaid at withTask demandOf firstOf leastOf run fold reloadsOf neededOf needOf digitsOf spelled flatMap needLine reasonLine explanationOf taskRulingOf
+unfolding everyByte sameBytes upTo after occurrences pastTabs field lines readDigits readNumber hasShape isName hexDigit readHex bind readSet ∅ _∪_ _∩_ sizeBelow size numberOf members wordsOf firstFault textFault headInRange headFault taskInRange taskInOrder knows taskFault endFault blockedFault lineFault withLine readFrom readLines readText headSaid timesSaid fieldsSaid taskSaid at withTask demandOf firstOf leastOf run fold blocking reloadsWith neededOf needOf digitsOf spelled flatMap needLine reasonLine explanationOf taskRulingOf
 explained-of-table-a = (refl, refl)
 
 -- K 4 0; T a 2 5 5 1 0 0 0; T b 3 8 6 0 0 0 0
@@ -48,5 +49,5 @@ text-p =
 pub explained-past-its-limit : explained text-p 0 1
     (88 ∷ 9 ∷ 98 ∷ 9 ∷ 48 ∷ 9 ∷ 55 ∷ 9 ∷ 54 ∷ 9 ∷ 51 ∷ 9 ∷ 48 ∷ 10 ∷
     73 ∷ 9 ∷ 97 ∷ 9 ∷ 50 ∷ 9 ∷ 48 ∷ 9 ∷ 45 ∷ 10 ∷ [])
-unfolding everyByte sameBytes upTo after occurrences pastTabs field lines readDigits readNumber hasShape isName hexDigit readHex bind readSet ∅ _∪_ _∩_ sizeBelow size numberOf members wordsOf firstFault textFault headInRange headFault taskInRange taskInOrder knows taskFault endFault readFrom readLines readText headSaid timesSaid fieldsSaid taskSaid at withTask demandOf firstOf leastOf run fold reloadsOf neededOf needOf digitsOf spelled flatMap needLine reasonLine explanationOf taskRulingOf
+unfolding everyByte sameBytes upTo after occurrences pastTabs field lines readDigits readNumber hasShape isName hexDigit readHex bind readSet ∅ _∪_ _∩_ sizeBelow size numberOf members wordsOf firstFault textFault headInRange headFault taskInRange taskInOrder knows taskFault endFault blockedFault lineFault withLine readFrom readLines readText headSaid timesSaid fieldsSaid taskSaid at withTask demandOf firstOf leastOf run fold blocking reloadsWith neededOf needOf digitsOf spelled flatMap needLine reasonLine explanationOf taskRulingOf
 explained-past-its-limit = (refl, refl)

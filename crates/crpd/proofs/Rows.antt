@@ -4,21 +4,23 @@ use Prim.Native.Nat.{ℕ, _<_}
 use native.Mathlib.Omega.{arith}
 use mathlib.Core.Path.{_≡_, ap, _∙_}
 use mathlib.Core.Bool.{Bool, true, false, cond}
-use mathlib.Core.List.{List}
+use mathlib.Core.List.{List, [], _∷_, map}
 use lib.Dec.{eqb}
 use lib.ListN.{getD}
 use Rattle.demand.specs.declared.Response.{Response}
 use Rattle.demand.specs.declared.Response.the-variants.{Within, Unschedulable}
 use Rattle.demand.specs.declared.Cell.{Cell}
 use Rattle.demand.specs.declared.Row.{Row}
-use Rattle.demand.specs.Least.{AnswerInRange, sooner}
+use Rattle.demand.specs.Least.{AnswerInRange, sooner, later, latestOf}
 use Rattle.demand.proofs.LeastLaws.{least-in-range}
+use Rattle.demand.proofs.LaterLaws.{latest-front}
+use Rattle.accesses.specs.declared.Access.{Access}
 use Rattle.tasks.specs.Tasks.{limitOf}
 use Rattle.table.specs.declared.Table.{Table}
 use Rattle.table.specs.Tasks.{at}
 use Rattle.table.specs.Accepted.{AcceptedTable}
 use Rattle.demand.proofs.FrontLaws.{front-at}
-use Rattle.analysis.specs.Analysis.{answerOf, responseOf, cell, rowOf, rowsOf}
+use Rattle.analysis.specs.Analysis.{blockersOf, leastUnder, answerOf, responseOf, cell, rowOf, rowsOf}
 use Rattle.verdicts.specs.Rows.{blankCell, blankRow, answerUnder, answersIn}
 use Rattle.verdicts.proofs.Lists.{methods-at}
 use Rattle.report.specs.Rows.{Reportable}
@@ -33,12 +35,22 @@ sooner-in-range (Within a) (Within b) p q = omega arith
 sooner-in-range (Within a) Unschedulable p q = p
 sooner-in-range Unschedulable b p q = q
 
+later-in-range : (a b : Response) → AnswerInRange a → AnswerInRange b → AnswerInRange (later a b)
+later-in-range (Within a) (Within b) p q = omega arith
+later-in-range (Within a) Unschedulable p q = q
+later-in-range Unschedulable b p q = p
+
+latest-in-range : (A : Access → Response) → ((a : Access) → AnswerInRange (A a)) → (l : List Access) → AnswerInRange (latestOf (map A l))
+latest-in-range A p [] = omega arith
+latest-in-range A p (a ∷ l) = rw (latest-front (A a) (map A l)) (later-in-range (A a) (latestOf (map A l)) (p a) (latest-in-range A p l))
+
 module _ (table : Table) (accepted : AcceptedTable table) where
   answer-in-range : (m i : ℕ) → i < table .count → AnswerInRange (answerOf table m i)
   unfolding answerOf
   answer-in-range m i h =
       let t = accepted .tasks i h in
-      least-in-range _ (limitOf (at table i)) (omega (arith, t .deadline, t .period))
+      latest-in-range (λ a. leastUnder table a m i (limitOf (at table i)))
+      (λ a. least-in-range _ (limitOf (at table i)) (omega (arith, t .deadline, t .period))) (blockersOf table i)
 
   response-in-range : (m i : ℕ) → i < table .count → AnswerInRange (responseOf table m i)
   unfolding responseOf

@@ -13,13 +13,14 @@ use Rattle.sets.specs.Field.{readSet}
 use Rattle.sets.specs.Sets.{∅, _∪_, _∩_, sizeBelow, size}
 use Rattle.sets.specs.Words.{numberOf, members, wordsOf}
 use Rattle.tasks.specs.Said.{headSaid, timesSaid, fieldsSaid, taskSaid}
-use Rattle.faults.specs.Faults.{firstFault, textFault, headInRange, headFault, taskInRange, taskInOrder, knows, taskFault, endFault}
-use Rattle.table.specs.Reading.{readFrom, readLines, readText}
+use Rattle.faults.specs.Faults.{firstFault, textFault, headInRange, headFault, taskInRange, taskInOrder, knows, taskFault, endFault, blockedFault}
+use Rattle.table.specs.Reading.{lineFault, withLine, readFrom, readLines, readText}
 use Rattle.table.specs.Tasks.{at, withTask}
 use Rattle.demand.specs.Demand.{demandOf}
 use Rattle.demand.specs.Least.{firstOf, leastOf}
 use Rattle.demand.specs.Positions.{run, fold}
-use Rattle.costs.specs.Costs.{reloadsOf}
+use Rattle.accesses.specs.Accesses.{blocking}
+use Rattle.costs.specs.Costs.{reloadsWith}
 use Rattle.analysis.specs.Analysis.{answerOf, responseOf}
 use Rattle.writer.specs.Text.{digitsOf, spelled}
 use Rattle.verdicts.specs.Verdicts.{verdictLine}
@@ -40,5 +41,5 @@ pub printed-of-table-a : printed text ≡
     82 ∷ 9 ∷ 98 ∷ 9 ∷ 52 ∷ 48 ∷ 9 ∷ 51 ∷ 9 ∷ 55 ∷ 9 ∷ 53 ∷ 9 ∷ 53 ∷ 9 ∷ 53 ∷ 9 ∷ 53 ∷ 10 ∷
     82 ∷ 9 ∷ 99 ∷ 9 ∷ 54 ∷ 48 ∷ 9 ∷ 53 ∷ 9 ∷ 49 ∷ 51 ∷ 9 ∷ 57 ∷ 9 ∷ 49 ∷ 49 ∷ 9 ∷ 57 ∷ 9 ∷ 57 ∷ 10 ∷
     86 ∷ 9 ∷ 121 ∷ 101 ∷ 115 ∷ 9 ∷ 121 ∷ 101 ∷ 115 ∷ 9 ∷ 121 ∷ 101 ∷ 115 ∷ 9 ∷ 121 ∷ 101 ∷ 115 ∷ 9 ∷ 121 ∷ 101 ∷ 115 ∷ 9 ∷ 121 ∷ 101 ∷ 115 ∷ 10 ∷ []
-unfolding printed everyByte sameBytes upTo after occurrences pastTabs field lines readDigits readNumber hasShape isName hexDigit readHex bind readSet ∅ _∪_ _∩_ sizeBelow size numberOf members wordsOf firstFault textFault headInRange headFault taskInRange taskInOrder knows taskFault endFault readFrom readLines readText headSaid timesSaid fieldsSaid taskSaid at withTask demandOf firstOf leastOf run fold reloadsOf answerOf responseOf digitsOf spelled flatMap responseLine verdictLine reportOf
+unfolding printed everyByte sameBytes upTo after occurrences pastTabs field lines readDigits readNumber hasShape isName hexDigit readHex bind readSet ∅ _∪_ _∩_ sizeBelow size numberOf members wordsOf firstFault textFault headInRange headFault taskInRange taskInOrder knows taskFault endFault blockedFault lineFault withLine readFrom readLines readText headSaid timesSaid fieldsSaid taskSaid at withTask demandOf firstOf leastOf run fold blocking reloadsWith answerOf responseOf digitsOf spelled flatMap responseLine verdictLine reportOf
 printed-of-table-a = refl

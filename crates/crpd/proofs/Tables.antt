@@ -17,7 +17,7 @@ use Rattle.delivery.specs.declared.Written.the-variants as written
 use Rattle.delivery.specs.Delivery.{Delivered}
 use Rattle.table_text.specs.TableText.{tableText}
 use Rattle.table_text.specs.Delivered.{TableDelivered}
-use Rattle.readable.specs.Readable.{Readable}
+use Rattle.readable.specs.Readable.{Whole, Readable}
 use Rattle.readable.specs.Tests.{isReadable}
 use Rattle.readable.proofs.RoundTrip.{read-then-written, reads-back, tests-are-meant}
 use Rattle.crpd.specs.Operations.{ruledAnswer, ruledBuffer, writeRuling, MeantRuling, TableWritten, TextRewritten}
@@ -26,12 +26,12 @@ use Rattle.crpd.proofs.Steps.{text-refused, text-accepted, ruling-is}
 -- ---- a table
 
 -- the tests refuse just what no accepted text gives
-module _ (table : Table) (long : length (table .tasks) ≡ 32) where
+module _ (table : Table) (whole : Whole table) where
   pub meant : MeantRuling table (writeRuling table)
-  meant = record { given = λ r. rw (tests-are-meant table long .1 r); refused = λ none. go (isReadable table) refl none }
+  meant = record { given = λ r. rw (tests-are-meant table whole .1 r); refused = λ none. go (isReadable table) refl none }
     where
       go : (t : Bool) → isReadable table ≡ t → (Readable table → ⊥) → cond t ruling.Accepted (ruling.Refused (refusal 25)) ≡ ruling.Refused (refusal 25)
-      go true e none = absurd (none (tests-are-meant table long .0 e))
+      go true e none = absurd (none (tests-are-meant table whole .0 e))
       go false e none = refl
 
   pub write-refused : (out : List ℕ) → isReadable table ≡ false → TableWritten table out (written.Refused (refusal 25)) out
@@ -47,12 +47,12 @@ write-given r d =
     record { answer = rw e at (d .written .answer-is); buffer = rw e at (d .written .buffer-is) }
 
 -- there is just one ruling that means what it is to mean
-pub one-ruling : (table : Table) → length (table .tasks) ≡ 32 → (v : Ruling) → MeantRuling table v → v ≡ writeRuling table
-one-ruling table long v m = go (isReadable table) refl
+pub one-ruling : (table : Table) → Whole table → (v : Ruling) → MeantRuling table v → v ≡ writeRuling table
+one-ruling table whole v m = go (isReadable table) refl
   where
     go : (t : Bool) → isReadable table ≡ t → v ≡ cond t ruling.Accepted (ruling.Refused (refusal 25))
-    go true e = m .given (tests-are-meant table long .0 e)
-    go false e = m .refused (λ r. false≢true (rw e at (tests-are-meant table long .1 r)))
+    go true e = m .given (tests-are-meant table whole .0 e)
+    go false e = m .refused (λ r. false≢true (rw e at (tests-are-meant table whole .1 r)))
 
 -- ---- a text
 
@@ -83,10 +83,10 @@ module _ (text before after : List ℕ) (n : ℕ) where
       go false a b = let z : _≡_ {A = ℕ} 0 1 = cc in absurd (omega arith)
 
 -- what is written of a table reads as the table
-pub write-then-read : (table : Table) → length (table .tasks) ≡ 32 → {before after : List ℕ} {n : ℕ} → TableWritten table before (written.Length n) after → readText (take n after) ≡ accepted table
-write-then-read table long {before} {after} {n} d =
+pub write-then-read : (table : Table) → Whole table → {before after : List ℕ} {n : ℕ} → TableWritten table before (written.Length n) after → readText (take n after) ≡ accepted table
+write-then-read table whole {before} {after} {n} d =
     let told = told-length (tableText table) before after n (writeRuling table) (d .written .answer-is) (d .written .buffer-is) in
-    rw (told .1) (reads-back table long (passed (isReadable table) (told .0)))
+    rw (told .1) (reads-back table whole (passed (isReadable table) (told .0)))
   where
     passed : (t : Bool) → cond t ruling.Accepted (ruling.Refused (refusal 25)) ≡ ruling.Accepted → t ≡ true
     passed true e = refl

@@ -101,16 +101,16 @@ pub record MeantRuling (table : Table) (ruled : Ruling) : Type 0 where
   pub given : Readable table → ruled ≡ ruling.Accepted
   pub refused : (Readable table → ⊥) → ruled ≡ ruling.Refused (refusal 25)
 
--- 25, and then 14; never longer than 6,253 bytes
+-- 25, and then 14; never longer than 9,293 bytes
 pub record TableWritten (table : Table) (before : List ℕ) (answer : Written) (after : List ℕ) : Type 0 where
   pub meant : MeantRuling table (writeRuling table)
-  pub written : TextWritten (writeRuling table) 6253 (tableText table) before answer after
+  pub written : TextWritten (writeRuling table) 9293 (tableText table) before answer after
 
 -- ---- a text that is read and written again
 
--- the text's refusals, and then 14; of an accepted text the same bytes, never more than 6,253
+-- the text's refusals, and then 14; of an accepted text the same bytes, never more than 9,293
 abbrev pub TextRewritten : List ℕ → List ℕ → Written → List ℕ → Type 0
-TextRewritten text = TextWritten (readText text .ruling) 6253 text
+TextRewritten text = TextWritten (readText text .ruling) 9293 text
 
 -- ---- what the program prints: the report, or the line of the refusal
 

@@ -125,8 +125,8 @@ pub demand-mono : (t : ℕ → Term) (n own : ℕ) → ((j : ℕ) → j < n → 
 demand-mono t n own p a b h =
     demand-by (λ k. k) (λ k. omega arith) t t n own own a b (omega arith) h (λ j l. no-more-self (t j) (p j l))
 
-pub demand-more : (e f : ℕ → Term) (n own : ℕ) → ((j : ℕ) → j < n → NoMore (e j) (f j)) → (s : ℕ) → demandOf own e n s ≤ demandOf own f n s
-demand-more e f n own p s = demand-by (λ k. k) (λ k. omega arith) e f n own own s s (omega arith) (omega arith) p
+pub demand-more : (e f : ℕ → Term) (n c d : ℕ) → c ≤ d → ((j : ℕ) → j < n → NoMore (e j) (f j)) → (s : ℕ) → demandOf c e n s ≤ demandOf d f n s
+demand-more e f n c d h p s = demand-by (λ k. k) (λ k. omega arith) e f n c d s s h (omega arith) p
 
 -- a task with less work of its own and above it, and no smaller a limit, is answered no later
 pub answer-by : (place : ℕ → ℕ) → Rising place → (e f : ℕ → Term) (n c d l m : ℕ) → c ≤ d → m ≤ l
@@ -139,4 +139,4 @@ answer-by place rises e f n c d l m h k p q =
 pub none-from : (own limit n : ℕ) (e f : ℕ → Term) → ((j : ℕ) → j < n → InRange (e j)) → ((j : ℕ) → j < n → NoMore (e j) (f j))
     → Unschedulable ≡ leastOf (demandOf own e n) limit → Unschedulable ≡ leastOf (demandOf own f n) limit
 none-from own limit n e f ranged under q =
-    none-latest _ _ (leastOf-no-later _ (demand-mono e n own ranged) _ (demand-more e f n own under) limit limit (omega arith)) q
+    none-latest _ _ (leastOf-no-later _ (demand-mono e n own ranged) _ (demand-more e f n own own (omega arith) under) limit limit (omega arith)) q

@@ -6,7 +6,7 @@ use Rattle.demand.specs.declared.Response.{Response}
 use Rattle.demand.specs.declared.Response.the-variants.{Within, Unschedulable}
 use Rattle.demand.specs.Least.{NoLater, sooner}
 
-no-later-trans : (a b c : Response) → NoLater a b → NoLater b c → NoLater a c
+pub no-later-trans : (a b c : Response) → NoLater a b → NoLater b c → NoLater a c
 unfolding NoLater
 no-later-trans (Within x) (Within y) (Within z) p q = omega arith
 no-later-trans (Within x) b Unschedulable p q = tt

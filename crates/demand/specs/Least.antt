@@ -1,9 +1,11 @@
 -- The smallest whole number that equals its demand, for any demand f : ℕ → ℕ. It is said twice: as a function, which computes and which
 -- the contracts cite, and as a relation, which says what the answer means. proofs/LeastLaws.antt has that the two are one.
-use Prim.Native.Nat.{ℕ, zero, suc, min, _≤_}
+use Prim.Native.Nat.{ℕ, zero, suc, min, max, _≤_, _<_}
 use mathlib.Core.Path.{_≡_}
 use mathlib.Core.Bool.{true, false}
+use mathlib.Core.List.{List, foldl}
 use lib.Dec.{eqb}
+use lib.ListN.{length, getD}
 use Rattle.demand.specs.declared.Response.{Response}
 use Rattle.demand.specs.declared.Response.the-variants.{Within, Unschedulable}
 
@@ -48,3 +50,18 @@ abbrev pub sooner : Response → Response → Response
 sooner (Within a) (Within b) = Within (record { 0 = min (a .0) (b .0) })
 sooner (Within a) Unschedulable = Within a
 sooner Unschedulable b = b
+
+-- the later of two answers; where one has no response time, none
+abbrev pub later : Response → Response → Response
+later (Within a) (Within b) = Within (record { 0 = max (a .0) (b .0) })
+later (Within a) Unschedulable = Unschedulable
+later Unschedulable b = Unschedulable
+
+-- the latest of some answers
+abbrev pub latestOf : List Response → Response
+latestOf rs = foldl later (Within (record { 0 = 0 })) rs
+
+-- what that means: none of them is later, and it is one of them
+pub record IsLatest (rs : List Response) (r : Response) : Type 0 where
+  pub each : (n : ℕ) → n < length rs → NoLater (getD rs n Unschedulable) r
+  pub one : (n : ℕ) × (n < length rs) × (getD rs n Unschedulable ≡ r)

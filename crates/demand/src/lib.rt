@@ -5,7 +5,7 @@ ghost use mathlib.Core.Path.{_≡_};
 ghost use Prim.Native.Nat.{_-_, _≤_};
 ghost use Rattle.demand.specs.Demand.{termOf, workOf, demandOf};
 ghost use Rattle.demand.specs.Terms.{termIn, InRange, Handed};
-ghost use Rattle.demand.specs.Least.{leastOf, toldOf, sooner, Reached};
+ghost use Rattle.demand.specs.Least.{leastOf, toldOf, sooner, later, Reached};
 ghost use Rattle.demand.specs.Hasten.{shareOf, sharesOf, PartOf, TurnOf};
 
 // The answer for one task: its response time, or that it has none within its limit.
@@ -192,4 +192,17 @@ pub fn combined(a: Response, b: Response) -> Response
         return a;
     };
     if x.0 <= y.0 { a } else { b }
+}
+
+// The later of two answers in ticks. Where one has no response time, 0, there is none.
+pub fn later(a: u64, b: u64) -> u64
+    ensures { λ r. ⌜ toldOf r ≡ later (toldOf a) (toldOf b) ⌝ }
+{
+    if a == 0 {
+        return 0;
+    }
+    if b == 0 {
+        return 0;
+    }
+    if a < b { b } else { a }
 }

@@ -17,9 +17,10 @@ use Rattle.demand.specs.Positions.{hp}
 use Rattle.demand.specs.Least.{AnswerInRange}
 use Rattle.costs.specs.declared.Charge.{Charge}
 use Rattle.costs.specs.declared.Charge.the-variants.{Victim, NoVictim}
-use Rattle.costs.specs.Costs.{reloadsIn, chargeOf}
-use Rattle.costs.specs.Gather.{unionOf}
-use Rattle.costs.proofs.HitLaws.{first-largest}
+use Rattle.costs.specs.Costs.{reloadsIn, chargeWith}
+use Rattle.costs.specs.declared.Hit.{Hit}
+use Rattle.costs.specs.Gather.{aff, unionOf, hit, largerOf, largestAt}
+use Rattle.costs.proofs.HitLaws.{larger-by, first-largest}
 use Rattle.need.specs.declared.Need.{Need}
 use Rattle.writer.specs.Text.{spelled, afterTab, lineOf}
 use Rattle.writer.proofs.Spelling.{spelled-short}
@@ -46,12 +47,12 @@ need-regroup x n a b c d e f = simp (append-assoc, append-nil)
 pub need-parts : (t : Task) (need : Need)
     → (88 ∷ []) ++ afterTab (nameText (t .name))
     ++ (afterTab (spelled (need .method)) ++ afterTab (neededText (need .time)))
-    ++ (afterTab (spelled (limitOf t)) ++ afterTab (spelled (t .work .0)) ++ afterTab (spelled (t .blocking .0)) ++ (10 ∷ []))
+    ++ (afterTab (spelled (limitOf t)) ++ afterTab (spelled (t .work .0)) ++ afterTab (spelled (need .blocker .lasts .0)) ++ (10 ∷ []))
     ≡ needLine t need
 unfolding needLine flatMap
 need-parts t need =
     need-regroup (88 ∷ []) (afterTab (nameText (t .name))) (afterTab (spelled (need .method))) (afterTab (neededText (need .time)))
-    (afterTab (spelled (limitOf t))) (afterTab (spelled (t .work .0))) (afterTab (spelled (t .blocking .0))) (10 ∷ [])
+    (afterTab (spelled (limitOf t))) (afterTab (spelled (t .work .0))) (afterTab (spelled (need .blocker .lasts .0))) (10 ∷ [])
 
 -- the line of a task above: its letter and name, the activations, the charge and LF
 reason-regroup : (x n a b c f : List ℕ) → x ++ n ++ a ++ (b ++ c ++ f) ≡ x ++ (n ++ (a ++ (b ++ (c ++ [])))) ++ f
@@ -76,14 +77,19 @@ module _ (table : Table) (R j none : ℕ) (task hit : Task) (charge at-j : Charg
       ∙ ap (λ (victim : List ℕ). lineOf (73 ∷ []) (nameText (at table j .name) ∷ spelled (activationsIn R (at table j)) ∷ spelled (reloadsIn charge) ∷ victim ∷ [])) (victim-named (nameAt table) none charge)
       ∙ ap (reasonLine (nameAt table) R (at table j)) g
 
--- the victim of a charge is one of the tasks down to i
-pub victim-above : (U E : ℕ → Set) (m i j : ℕ) → j < i → victimIn j (chargeOf U E m i j) ≤ i
-victim-above U E zero i j h = omega arith
-victim-above U E (suc zero) i j h = omega arith
-victim-above U E (suc (suc zero)) i j h = omega (arith, first-largest (λ k. size (U k)) (j + 1) (i + 1) (omega arith) .below)
-victim-above U E (suc (suc (suc zero))) i j h = omega arith
-victim-above U E (suc (suc (suc (suc zero)))) i j h = omega (arith, first-largest (λ k. size (U k ∩ unionOf E (hp (j + 1)))) (j + 1) (i + 1) (omega arith) .below)
-victim-above U E (suc (suc (suc (suc (suc m))))) i j h = omega arith
+-- the victim of a charge is one of the tasks down to i, or the task of the set that is one member more
+victim-of-larger : (n : ℕ) (a b : Hit) → a .victim < n → b .victim < n → largerOf a b .victim < n
+victim-of-larger n a b p q = larger-by (λ h. h .victim < n) a b (λ _. q) (λ _. p)
+
+pub victim-below : (U E : ℕ → Set) (X : Set) (k n m i j : ℕ) → j < i → i < n → k < n → victimIn j (chargeWith U E X k m i j) < n
+victim-below U E X k n zero i j h l b = omega arith
+victim-below U E X k n (suc zero) i j h l b = omega arith
+victim-below U E X k n (suc (suc zero)) i j h l b =
+    victim-of-larger n (largestAt (λ k. size (U k)) (aff i j)) (hit (size X) k) (omega (arith, first-largest (λ k. size (U k)) (j + 1) (i + 1) (omega arith) .below)) b
+victim-below U E X k n (suc (suc (suc zero))) i j h l b = omega arith
+victim-below U E X k n (suc (suc (suc (suc zero)))) i j h l b =
+    victim-of-larger n (largestAt (λ k. size (U k ∩ unionOf E (hp (j + 1)))) (aff i j)) (hit (size (X ∩ unionOf E (hp (j + 1)))) k) (omega (arith, first-largest (λ k. size (U k ∩ unionOf E (hp (j + 1)))) (j + 1) (i + 1) (omega arith) .below)) b
+victim-below U E X k n (suc (suc (suc (suc (suc m))))) i j h l b = omega arith
 
 -- the task that is read at a position is the table's, and its times are in range
 module _ (table : Table) (k : ℕ) (here : k < table .count) where
@@ -101,5 +107,4 @@ module _ (table : Table) (k : ℕ) (here : k < table .count) where
         period-most = q .period .1;
         deadline = q .deadline .1;
         jitter = q .jitter;
-        blocking = q .blocking;
       }

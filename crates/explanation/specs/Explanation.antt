@@ -7,11 +7,12 @@ use Rattle.demand.specs.Positions.{hp}
 use Rattle.demand.specs.Demand.{ceil}
 use Rattle.tasks.specs.declared.Task.{Task}
 use Rattle.tasks.specs.Tasks.{nameText, limitOf}
+use Rattle.accesses.specs.declared.Access.{Access}
 use Rattle.table.specs.declared.Table.{Table}
 use Rattle.table.specs.Tasks.{at}
 use Rattle.costs.specs.declared.Charge.{Charge}
 use Rattle.costs.specs.declared.Charge.the-variants.{Victim, NoVictim}
-use Rattle.costs.specs.Costs.{reloadsIn, chargeAt}
+use Rattle.costs.specs.Costs.{reloadsIn, chargeUnder}
 use Rattle.need.specs.declared.Need.{Need}
 use Rattle.need.specs.Needs.{needOf}
 use Rattle.writer.specs.Text.{spelled, lineOf}
@@ -21,7 +22,7 @@ abbrev pub neededText : Response → List ℕ
 neededText (Within R) = spelled (R .0)
 neededText Unschedulable = 98 ∷ 101 ∷ 121 ∷ 111 ∷ 110 ∷ 100 ∷ []
 
--- the first line: `X`, name, method explained, need, D − J, C, B
+-- the first line: `X`, name, method explained, need, D − J, C, and as B how long the task is blocked
 unfoldable pub needLine : Task → Need → List ℕ
 needLine t need =
     lineOf (88 ∷ [])
@@ -30,7 +31,7 @@ needLine t need =
     ∷ neededText (need .time)
     ∷ spelled (limitOf t)
     ∷ spelled (t .work .0)
-    ∷ spelled (t .blocking .0)
+    ∷ spelled (need .blocker .lasts .0)
     ∷ [])
 
 -- how often a task is activated in R ticks
@@ -51,14 +52,14 @@ unfoldable pub reasonLine : (ℕ → List ℕ) → ℕ → Task → Charge → L
 reasonLine names R t charge =
     lineOf (73 ∷ []) (nameText (t .name) ∷ spelled (activationsIn R t) ∷ spelled (reloadsIn charge) ∷ victimText names charge ∷ [])
 
--- the lines of the tasks above i under method m, from position 0 down; none where the need is beyond
-abbrev pub reasonLines : Table → ℕ → ℕ → Response → List ℕ
-reasonLines table m i (Within R) = flatMap (λ j. reasonLine (nameAt table) (R .0) (at table j) (chargeAt table m i j)) (hp i)
-reasonLines table m i Unschedulable = []
+-- the lines of the tasks above i under method m while an access blocks i, from position 0 down; none where the need is beyond
+abbrev pub reasonLines : Table → Access → ℕ → ℕ → Response → List ℕ
+reasonLines table a m i (Within R) = flatMap (λ j. reasonLine (nameAt table) (R .0) (at table j) (chargeUnder table a m i j)) (hp i)
+reasonLines table a m i Unschedulable = []
 
 -- the explanation of what the task at i needs
 abbrev pub explanationBy : Table → ℕ → Need → List ℕ
-explanationBy table i need = needLine (at table i) need ++ reasonLines table (need .method) i (need .time)
+explanationBy table i need = needLine (at table i) need ++ reasonLines table (need .blocker) (need .method) i (need .time)
 
 -- the explanation of what method m answers for the task at i
 unfoldable pub explanationOf : Table → ℕ → ℕ → List ℕ

@@ -16,7 +16,8 @@ pub fn explain(table: Table, method: u64, i: usize, out: &mut [u8]) -> Written
 {
     let mut board = [0u64; board::PLACES];
     board::fill(table, i + 1, &mut board);
-    let needed = need::explained(&board, method, i);
+    let blockers = analysis::blockers_at(table, i);
+    let needed = need::explained(&board, method, i, blockers);
     let task = table.tasks[i];
     // Room for lines of which every field is as long as it can be by itself. All of them together never are.
     let mut draft = [0u8; 1390];

@@ -5,6 +5,7 @@ use need::Need;
 use table::Table;
 use tasks::Name;
 use tasks::Task;
+use units::Ticks;
 use writer::put_byte;
 use writer::put_field;
 use writer::put_number_field;
@@ -16,7 +17,7 @@ ghost use Rattle.demand.specs.Positions.{hp};
 ghost use Rattle.demand.specs.Least.{AnswerInRange};
 ghost use Rattle.tasks.specs.Tasks.{nameText, limitOf};
 ghost use Rattle.table.specs.Tasks.{at};
-ghost use Rattle.costs.specs.Costs.{reloadsIn, chargeAt};
+ghost use Rattle.costs.specs.Costs.{reloadsIn, chargeUnder};
 ghost use Rattle.writer.specs.Text.{spelled, afterTab};
 ghost use Rattle.writer.specs.Wrote.{Wrote};
 ghost use Rattle.explanation.specs.Explanation.{neededText, needLine, activationsIn, nameAt, victimText, reasonLine, reasonLines};
@@ -62,15 +63,15 @@ fn put_need(out: &mut [u8], at: usize, need: Need) -> usize
     put_needed(out, told, needed)
 }
 
-// D - J, C and B, and LF.
-fn put_times(out: &mut [u8], at: usize, task: Task) -> usize
+// D - J, C and how long the task is blocked, and LF.
+fn put_times(out: &mut [u8], at: usize, task: Task, lasts: Ticks) -> usize
     requires { ⌜ at + 31 ≤ length (now out) ⌝ }
-    requires { ⌜ Timed task ⌝ }
-    ensures { λ r. ⌜ Wrote (now (out .entry)) at (afterTab (spelled (limitOf task)) ++ afterTab (spelled (task .work .0)) ++ afterTab (spelled (task .blocking .0)) ++ (10 ∷ [])) (now (out .exit)) r × (r ≤ at + 31) ⌝ }
+    requires { ⌜ Timed task × (lasts .0 ≤ 250000000) ⌝ }
+    ensures { λ r. ⌜ Wrote (now (out .entry)) at (afterTab (spelled (limitOf task)) ++ afterTab (spelled (task .work .0)) ++ afterTab (spelled (lasts .0)) ++ (10 ∷ [])) (now (out .exit)) r × (r ≤ at + 31) ⌝ }
 {
     let limited = put_number_field(out, at, task.deadline.0 - task.jitter.0);
     let worked = put_number_field(out, limited, task.work.0);
-    let blocked = put_number_field(out, worked, task.blocking.0);
+    let blocked = put_number_field(out, worked, lasts.0);
     put_byte(out, blocked, b'\n')
 }
 
@@ -84,7 +85,8 @@ pub fn put_need_line(out: &mut [u8], task: Task, need: Need) -> usize
     let name = task.name;
     let start = put_head(out, 0, b'X', name);
     let needed = put_need(out, start, need);
-    put_times(out, needed, task)
+    let lasts = need.blocker.lasts;
+    put_times(out, needed, task, lasts)
 }
 
 // How often a task is activated in `r` ticks.
@@ -145,23 +147,25 @@ fn put_reason_line(
     put_charge(out, activated, charge, victim)
 }
 
-// The lines of the tasks above i, where the need is `r`.
+// The lines of the tasks above i, where what is needed is `r`.
 fn put_reason_lines(
     out: &mut [u8],
     from: usize,
     table: Table,
     board: &[u64],
-    method: u64,
+    need: Need,
     i: usize,
     r: u64,
 ) -> usize
-    requires { ⌜ (from + 43 * i ≤ length (now out)) × (r ≤ 250000000) × Grounds table (now board) method i ⌝ }
-    ensures { λ e. ⌜ Wrote (now (out .entry)) from (flatMap (λ j. reasonLine (nameAt table) r (at table j) (chargeAt table method i j)) (hp i)) (now (out .exit)) e × (e ≤ from + 43 * i) ⌝ }
+    requires { ⌜ (from + 43 * i ≤ length (now out)) × (r ≤ 250000000) × Grounds table (now board) need i ⌝ }
+    ensures { λ e. ⌜ Wrote (now (out .entry)) from (flatMap (λ j. reasonLine (nameAt table) r (at table j) (chargeUnder table (need .blocker) (need .method) i j)) (hp i)) (now (out .exit)) e × (e ≤ from + 43 * i) ⌝ }
 {
-    let row = one_row::charged(board, method, i);
+    let blocker = need.blocker;
+    let mut row = one_row::charged(board, need.method, i);
+    blocked_row::join(board, need.method, i, blocker, &mut row);
     let mut next = from;
     for j in 0..i {
-        let charge = one_row::charge_at(&row, method, j);
+        let charge = one_row::charge_at(&row, need.method, j);
         let k = victim_of(charge, j);
         let task = table.tasks[j];
         let hit = table.tasks[k];
@@ -180,13 +184,12 @@ pub fn put_reasons(
     need: Need,
     i: usize,
 ) -> usize
-    requires { ⌜ (from + 43 * i ≤ length (now out)) × AnswerInRange (need .time) × Grounds table (now board) (need .method) i ⌝ }
-    ensures { λ e. ⌜ Wrote (now (out .entry)) from (reasonLines table (need .method) i (need .time)) (now (out .exit)) e × (e ≤ from + 43 * i) ⌝ }
+    requires { ⌜ (from + 43 * i ≤ length (now out)) × AnswerInRange (need .time) × Grounds table (now board) need i ⌝ }
+    ensures { λ e. ⌜ Wrote (now (out .entry)) from (reasonLines table (need .blocker) (need .method) i (need .time)) (now (out .exit)) e × (e ≤ from + 43 * i) ⌝ }
 {
-    let method = need.method;
     let needed = need.time;
     match needed {
-        Response::Within(time) => put_reason_lines(out, from, table, board, method, i, time.0),
+        Response::Within(time) => put_reason_lines(out, from, table, board, need, i, time.0),
         Response::Unschedulable => from,
     }
 }

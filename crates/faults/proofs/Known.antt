@@ -1,61 +1,49 @@
--- The names so far, one at a time; and a name that is not known is none of them.
+-- Which names are known: the position of a name, and that a name that is not known is none of them.
 -- Assumes nothing.
-use Prim.Native.Nat.{ℕ, zero, suc, _+_, _<_, _≤_}
+use Prim.Native.Nat.{ℕ, suc, _<_, _≤_}
 use mathlib.Core.Path.{_≡_, refl, sym, ap, _∙_}
-use mathlib.Core.Bool.{Bool, true, false, _||_, false≢true}
+use mathlib.Core.Bool.{Bool, true, false, cond, _||_, false≢true}
 use mathlib.Core.List.{List, [], _∷_, map}
-use native.Mathlib.Nat.{not-suc-le-zero, le-of-suc-le-suc}
-use native.Mathlib.Numerals.{add-one}
 use native.Mathlib.Omega.{arith}
-use borrow.Author.Tests.{eq-eqb}
-use lib.ListN.{length, getD, take, drop, length-take, length-map, drop-of-length-le}
-use lib.Seq.{drop-cons, getD-take}
+use borrow.Author.Tests.{eq-eqb, lt-ltb, le-ltb, ltb-false}
+use lib.Dec.{ltb, leb·suc-suc}
+use lib.ListN.{length, getD, take, length-map, List·getD-map}
+use lib.Seq.{length-take-le}
 use Rattle.fields.specs.Bytes.{sameBytes}
 use Rattle.tasks.specs.declared.Name.{Name}
 use Rattle.tasks.specs.declared.Task.{Task}
 use Rattle.tasks.specs.Tasks.{blank, nameIn}
-use Rattle.faults.specs.Faults.{knows}
+use Rattle.faults.specs.Faults.{knows, firstThat, positionOf}
+use Rattle.faults.proofs.First.{before-first}
 
-module _ (n : Name) (names : List Name) (count i : ℕ) (d : Name) where
-  left-name : i < count → count ≤ length names → drop i (take count names) ≡ getD names i d ∷ drop (i + 1) (take count names)
-  left-name h k =
-      let l : i < length (take count names) = simp length-take (omega arith) in
-      rw (add-one, drop-cons (take count names) i d l, getD-take count names i d h)
-
-  pub knows-step : i < count → count ≤ length names → sameBytes (n .bytes) (getD names i d .bytes) ≡ false
-      → knows n (drop (i + 1) (take count names)) ≡ knows n (drop i (take count names))
-  unfolding knows
-  knows-step h k e = rw (left-name h k, e)
-
-  pub knows-stop : i < count → count ≤ length names → sameBytes (n .bytes) (getD names i d .bytes) ≡ true
-      → true ≡ knows n (drop i (take count names))
-  unfolding knows
-  knows-stop h k e = rw (left-name h k, e)
-
-pub knows-end : (n : Name) (names : List Name) (count i : ℕ) → count ≤ i → false ≡ knows n (drop i (take count names))
-unfolding knows
-knows-end n names count i h =
-    let l : length (take count names) ≤ i = simp length-take (omega arith) in
-    rw (drop-of-length-le (take count names) l)
-
-pub length-mapped : {X Y : Type 0} (f : X → Y) (l : List X) (n : ℕ) → length (map f l) ≡ n → length l ≡ n
-length-mapped f l n e = sym (length-map l f) ∙ e
+-- a name is known just where one of the positions has it
+pub knows-is : (n : Name) (names : List Name) → knows n names ≡ ltb (positionOf n names) (length names)
+unfolding knows firstThat
+knows-is n [] = sym (le-ltb 0 0 (omega arith))
+knows-is n (m ∷ names) = go (sameBytes (n .bytes) (m .bytes)) (knows-is n names)
+  where
+    go : (t : Bool) → knows n names ≡ ltb (positionOf n names) (length names) → (t || knows n names) ≡ ltb (cond t 0 (suc (positionOf n names))) (suc (length names))
+    go true e = sym (lt-ltb 0 (suc (length names)) (omega arith))
+    go false e = e ∙ sym (leb·suc-suc (suc (positionOf n names)) (length names))
 
 pub same-bytes-self : (s : List ℕ) → sameBytes s s ≡ true
 unfolding sameBytes
 same-bytes-self [] = refl
 same-bytes-self (b ∷ s) = rw (eq-eqb b b refl) (same-bytes-self s)
 
-neither : (a b : Bool) → (a || b) ≡ false → (a ≡ false) × (b ≡ false)
-neither true b e = absurd (false≢true (sym e))
-neither false b e = (refl, e)
+-- a name that is not known is none of the names
+pub not-known : (n : Name) (names : List Name) (k : ℕ) (d : Name) → knows n names ≡ false → k < length names → sameBytes (n .bytes) (getD names k d .bytes) ≡ false
+not-known n names k d e h =
+    let none : length names ≤ positionOf n names = ltb-false _ _ (sym (knows-is n names) ∙ e) in
+    before-first (λ m. sameBytes (n .bytes) (m .bytes)) d names k (omega arith)
 
--- a name that is not known is that of none of the tasks
+-- and that of none of the tasks
 pub unknown : (n : Name) (ts : List Task) (k : ℕ) → knows n (map nameIn ts) ≡ false → k < length ts → getD ts k blank .name ≡ n → ⊥
-unfolding knows
-unknown n [] k e h q = not-suc-le-zero h
-unknown n (t ∷ ts) zero e h q =
-    let p = neither (sameBytes (n .bytes) (t .name .bytes)) (knows n (map nameIn ts)) e .0 in
-    false≢true (sym p ∙ ap (λ (m : Name). sameBytes (n .bytes) (m .bytes)) q ∙ same-bytes-self (n .bytes))
-unknown n (t ∷ ts) (suc k) e h q =
-    unknown n ts k (neither (sameBytes (n .bytes) (t .name .bytes)) (knows n (map nameIn ts)) e .1) (le-of-suc-le-suc h) q
+unknown n ts k e h q =
+    let at : getD (map nameIn ts) k (nameIn blank) ≡ n = List·getD-map nameIn ts k blank ∙ q in
+    false≢true (sym (not-known n (map nameIn ts) k (nameIn blank) e (rw length-map h)) ∙ ap (λ (m : Name). sameBytes (n .bytes) (m .bytes)) at ∙ same-bytes-self (n .bytes))
+
+-- the test of the first `count` names
+pub known-below : (n : Name) (names : List Name) (count : ℕ) → count ≤ length names → ltb (positionOf n (take count names)) count ≡ knows n (take count names)
+known-below n names count h =
+    sym (ap (λ (k : ℕ). ltb (positionOf n (take count names)) k) (length-take-le count names h)) ∙ sym (knows-is n (take count names))

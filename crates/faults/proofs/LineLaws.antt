@@ -1,24 +1,27 @@
 -- What holds of a text and of a line that is not refused.
 -- Assumes nothing.
 use Prim.Native.Nat.{ℕ, _%_, _≤_, _<_}
-use mathlib.Core.Path.{_≡_}
-use mathlib.Core.Bool.{Bool, true, false, _&&_, and-eq-true-iff}
+use mathlib.Core.Path.{_≡_, refl}
+use mathlib.Core.Bool.{Bool, true, false, cond, _&&_, and-eq-true-iff}
+use native.Mathlib.Omega.{arith}
 use mathlib.Core.List.{List}
 use lib.Dec.{ltb, leb, eqb}
-use lib.ListN.{length}
-use borrow.Author.Tests.{ltb-true, ltb-false, leb-true, leb-false, eqb-true, not-false}
+use lib.ListN.{length, getD}
+use borrow.Author.Tests.{lt-ltb, ltb-true, ltb-false, leb-true, leb-false, eqb-true, not-false}
 use Rattle.tasks.specs.declared.Name.{Name}
 use Rattle.tasks.specs.declared.Task.{Task}
 use Rattle.tasks.specs.declared.HeadLine.{HeadLine}
 use Rattle.tasks.specs.declared.TaskLine.{TaskLine}
-use Rattle.faults.specs.declared.Finding.the-variants.{Fine}
-use Rattle.faults.specs.Faults.{textFault, isWithin, headInRange, headFault, taskInRange, taskInOrder, knows, taskFault}
+use Rattle.faults.specs.declared.Finding.the-variants.{Fine, Fault}
+use Rattle.faults.specs.Faults.{firstFault, textFault, isWithin, headInRange, headFault, taskInRange, taskInOrder, knows, taskFault, firstBlocked, blockedFault}
+use Rattle.tasks.specs.Tasks.{blank}
+use Rattle.faults.proofs.First.{before-first}
 use Rattle.faults.proofs.Chain.{fine-row}
 
-both : (a b : Bool) → (a && b) ≡ true → (a ≡ true) × (b ≡ true)
+pub both : (a b : Bool) → (a && b) ≡ true → (a ≡ true) × (b ≡ true)
 both a b e = and-eq-true-iff a b .0 e
 
-lies : (low high n : ℕ) → isWithin low high n ≡ true → (low ≤ n) × (n ≤ high)
+pub lies : (low high n : ℕ) → isWithin low high n ≡ true → (low ≤ n) × (n ≤ high)
 lies low high n e =
     let p = both (leb low n) (leb n high) e in
     (leb-true low n (p .0), leb-true n high (p .1))
@@ -59,7 +62,7 @@ head-holds said e1 =
       brt = lies 0 100000 _ (p .1) .1;
     }
 
--- a task line
+-- a task line that is not late
 pub record TaskHolds (count : ℕ) (names : List Name) (said : TaskLine) : Type 0 where
   pub room : count < 32
   pub shaped : said .shaped ≡ true
@@ -70,7 +73,7 @@ pub record TaskHolds (count : ℕ) (names : List Name) (said : TaskLine) : Type 
   pub in-order : taskInOrder (said .task) ≡ true
   pub new-name : knows (said .task .name) names ≡ false
 
-pub task-holds : (count : ℕ) (names : List Name) (said : TaskLine) → taskFault count names said ≡ Fine → TaskHolds count names said
+pub task-holds : (count : ℕ) (names : List Name) (said : TaskLine) → taskFault false count names said ≡ Fine → TaskHolds count names said
 unfolding taskFault
 task-holds count names said e1 =
     let e2 = fine-row _ _ _ e1 .1 in
@@ -89,6 +92,20 @@ task-holds count names said e1 =
       in-order = not-false _ (fine-row _ _ _ e7 .0);
       new-name = fine-row _ _ _ (fine-row _ _ _ e7 .1) .0;
     }
+
+-- one that is late is refused, whatever it says
+pub late-fault : (count : ℕ) (names : List Name) (said : TaskLine) → taskFault true count names said ≡ cond (leb 32 count) (Fault 10) (Fault 3)
+unfolding taskFault firstFault
+late-fault count names said = refl
+
+-- where there are accesses, no task has a B
+pub none-blocked : (accesses : ℕ) (tasks : List Task) (k : ℕ) → blockedFault accesses tasks ≡ Fine → 1 ≤ accesses → k < length tasks → getD tasks k blank .blocking .0 ≡ 0
+unfolding blockedFault
+none-blocked accesses tasks k e some h =
+    let row = rw (lt-ltb 0 accesses some) at (fine-row _ _ _ e .0) in
+    let none : length tasks ≤ firstBlocked tasks = ltb-false _ _ row in
+    let zero : getD tasks k blank .blocking .0 ≤ 0 = ltb-false _ _ (before-first (λ t. ltb 0 (t .blocking .0)) blank tasks k (omega arith)) in
+    omega arith
 
 -- what the tests on a task's numbers say
 pub record Ranges (t : Task) : Type 0 where

@@ -1,7 +1,7 @@
--- The refusals 1 to 11, each with its condition, in the order in which they are tried: those of the whole text, of line 1, of each task line, and
--- at the end.
+-- The refusals 1 to 11 and 17, each with its condition, in the order in which they are tried: those of the whole text, of line 1, of each task line,
+-- and at the end. Those of an access line stand in `access_lines`.
 -- Assumes nothing.
-use Prim.Native.Nat.{ℕ, _-_, _%_}
+use Prim.Native.Nat.{ℕ, suc, _-_, _%_}
 use mathlib.Core.List.{List, [], _∷_}
 use mathlib.Core.Bool.{Bool, false, cond, not, _&&_, _||_}
 use lib.Dec.{ltb, leb, eqb}
@@ -75,11 +75,20 @@ unfoldable pub knows : Name → List Name → Bool
 knows n [] = false
 knows n (m ∷ names) = sameBytes (n .bytes) (m .bytes) || knows n names
 
--- a task line below `count` others, which have these names
-abbrev pub taskRows : ℕ → List Name → TaskLine → Conditions
-taskRows count names said =
+-- the first position that passes a test, and the list's length where none does
+unfoldable pub firstThat : {X : Type 0} → (X → Bool) → List X → ℕ
+firstThat p [] = 0
+firstThat p (x ∷ l) = cond (p x) 0 (suc (firstThat p l))
+
+-- the first position that has this name
+abbrev pub positionOf : Name → List Name → ℕ
+positionOf n names = firstThat (λ m. sameBytes (n .bytes) (m .bytes)) names
+
+-- a task line below `count` others, which have these names; it is late where an access line stands above it
+abbrev pub taskRows : Bool → ℕ → List Name → TaskLine → Conditions
+taskRows late count names said =
     (leb 32 count, 10)
-    ∷ (not (said .shaped), 3)
+    ∷ (late || not (said .shaped), 3)
     ∷ (not (said .named), 4)
     ∷ (not (said .numbered), 5)
     ∷ (not (taskInRange (said .task)), 6)
@@ -88,8 +97,8 @@ taskRows count names said =
     ∷ (knows (said .task .name) names, 9)
     ∷ []
 
-unfoldable pub taskFault : ℕ → List Name → TaskLine → Finding
-taskFault count names said = firstFault (taskRows count names said)
+unfoldable pub taskFault : Bool → ℕ → List Name → TaskLine → Finding
+taskFault late count names said = firstFault (taskRows late count names said)
 
 -- the end, after `count` task lines
 abbrev pub endRows : ℕ → Conditions
@@ -97,3 +106,14 @@ endRows count = (eqb count 0, 11) ∷ []
 
 unfoldable pub endFault : ℕ → Finding
 endFault count = firstFault (endRows count)
+
+-- the first of these tasks whose B is above 0
+abbrev pub firstBlocked : List Task → ℕ
+firstBlocked tasks = firstThat (λ t. ltb 0 (t .blocking .0)) tasks
+
+-- then, after these tasks and so many accesses: where there are accesses, no B is above 0
+abbrev pub blockedRows : ℕ → List Task → Conditions
+blockedRows accesses tasks = (ltb 0 accesses && ltb (firstBlocked tasks) (length tasks), 17) ∷ []
+
+unfoldable pub blockedFault : ℕ → List Task → Finding
+blockedFault accesses tasks = firstFault (blockedRows accesses tasks)

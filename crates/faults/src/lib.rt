@@ -8,7 +8,8 @@ ghost use mathlib.Core.Path.{_≡_};
 ghost use Prim.Native.Nat.{_≤_};
 ghost use lib.ListN.{take};
 ghost use Rattle.fields.specs.Bytes.{sameBytes};
-ghost use Rattle.faults.specs.Faults.{isEnded, textFault, isWithin, headInRange, headFault, taskInRange, taskInOrder, knows, taskFault};
+ghost use mathlib.Core.Bool.{false};
+ghost use Rattle.faults.specs.Faults.{isEnded, textFault, isWithin, headInRange, headFault, taskInRange, taskInOrder, knows, positionOf, taskFault, firstBlocked, blockedFault};
 
 // What the tests of a line, or of the whole text, find.
 pub enum Finding {
@@ -37,7 +38,8 @@ pub fn text_fault(input: &[u8]) -> Finding
     Finding::Fine
 }
 
-fn is_within(low: u64, high: u64, n: u64) -> bool
+// Whether a number lies from `low` to `high`.
+pub fn is_within(low: u64, high: u64, n: u64) -> bool
     ensures { λ r. ⌜ r ≡ isWithin low high n ⌝ }
 {
     (low <= n) & (n <= high)
@@ -89,25 +91,33 @@ fn same_name(a: Name, b: Name) -> bool
     fields::same_bytes(&x, &y)
 }
 
-// Whether the name is one of the first `count` of these.
-fn is_known(count: usize, names: [Name; 32], name: Name) -> bool
+// The first position that has the name, of the first `count` of these; `count` where none has.
+pub fn position_of(count: usize, names: [Name; 32], name: Name) -> usize
     requires { ⌜ count ≤ 32 ⌝ }
-    ensures { λ r. ⌜ r ≡ knows name (take count names) ⌝ }
+    ensures { λ r. ⌜ r ≡ positionOf name (take count names) ⌝ }
 {
     let mut i = 0;
     while i < count {
         let other = names[i];
         if same_name(name, other) {
-            return true;
+            return i;
         }
         i += 1;
     }
-    false
+    i
 }
 
-// The first refusal of a task line below `count` others, of which `names` has the names.
+// Whether the name is one of the first `count` of these.
+fn is_known(count: usize, names: [Name; 32], name: Name) -> bool
+    requires { ⌜ count ≤ 32 ⌝ }
+    ensures { λ r. ⌜ r ≡ knows name (take count names) ⌝ }
+{
+    position_of(count, names, name) < count
+}
+
+// The first refusal of a task line below `count` others, of which `names` has the names, and below no access line.
 pub fn task_fault(count: usize, names: [Name; 32], said: TaskLine) -> Finding
-    ensures { λ r. ⌜ r ≡ taskFault count (take count names) said ⌝ }
+    ensures { λ r. ⌜ r ≡ taskFault false count (take count names) said ⌝ }
 {
     let task = said.task;
     let name = task.name;
@@ -134,6 +144,33 @@ pub fn task_fault(count: usize, names: [Name; 32], said: TaskLine) -> Finding
     }
     if is_known(count, names, name) {
         return Finding::Fault(9);
+    }
+    Finding::Fine
+}
+
+// The position of the first of `count` tasks whose B is above 0; `count` where there is none.
+pub fn first_blocked(count: usize, tasks: [Task; 32]) -> usize
+    requires { ⌜ count ≤ 32 ⌝ }
+    ensures { λ r. ⌜ r ≡ firstBlocked (take count tasks) ⌝ }
+{
+    let mut i = 0;
+    while i < count {
+        let task = tasks[i];
+        if 0 < task.blocking.0 {
+            return i;
+        }
+        i += 1;
+    }
+    i
+}
+
+// The refusal at the end of a table with accesses: a task that has a B all the same.
+pub fn blocked_fault(accesses: usize, count: usize, tasks: [Task; 32]) -> Finding
+    requires { ⌜ count ≤ 32 ⌝ }
+    ensures { λ r. ⌜ r ≡ blockedFault accesses (take count tasks) ⌝ }
+{
+    if (0 < accesses) & (first_blocked(count, tasks) < count) {
+        return Finding::Fault(17);
     }
     Finding::Fine
 }

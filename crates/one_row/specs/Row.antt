@@ -26,10 +26,14 @@ hasVictim m = eqb m 2 || eqb m 4
 abbrev pub chargeIn : List ℕ → ℕ → ℕ → Charge
 chargeIn row m j = cond (hasVictim m) (Victim (hitOn row j)) (noVictim (getD row j 0))
 
--- a list that tells the charges of the tasks above i from the position `from` on
-pub record Charged (board : List ℕ) (m i from : ℕ) (row : List ℕ) : Type 0 where
+-- a list that tells these charges under method m of the tasks above i, from the position `from` on
+pub record Tells (G : ℕ → Charge) (m i from : ℕ) (row : List ℕ) : Type 0 where
   pub long : length row ≡ 64
-  pub each : (j : ℕ) → from ≤ j → j < i → chargeIn row m j ≡ chargeOn board m i j
+  pub each : (j : ℕ) → from ≤ j → j < i → chargeIn row m j ≡ G j
+
+-- those that the board gives
+abbrev pub Charged : List ℕ → ℕ → ℕ → ℕ → List ℕ → Type 0
+Charged board m i = Tells (chargeOn board m i) m i
 
 -- a list of words that has, at each position above i, the union of the ECBs down to it
 pub record Evictors (board : List ℕ) (i : ℕ) (unions : List ℕ) : Type 0 where

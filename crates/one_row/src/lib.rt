@@ -3,10 +3,8 @@
 // specs/Row.antt says what stands where in a row.
 mod search;
 
-use board::BRT;
 use board::ECBS;
 use board::UCBS;
-use board::WORKS;
 use costs::Charge;
 use costs::Hit;
 use costs::hit_at;
@@ -15,20 +13,17 @@ use costs::larger;
 use search::largest_shared;
 use sets::CacheSet;
 use units::Reloads;
-use units::Ticks;
 ghost use mathlib.Core.Path.{_≡_};
 ghost use Prim.Native.Nat.{_+_, _<_, _≤_};
 ghost use lib.ListN.{length};
-ghost use Rattle.demand.specs.Positions.{front};
 ghost use Rattle.board.specs.Board.{Lent};
-ghost use Rattle.costs.specs.Costs.{weightOn};
 ghost use Rattle.one_row.specs.Row.{chargeIn, Charged, Evictors};
 
 // How many numbers a row has.
-const ROW: usize = 64;
+pub const ROW: usize = 64;
 
 // How many words the unions of the ECBs have.
-const EVICTORS: usize = 128;
+pub const EVICTORS: usize = 128;
 
 // ECB-only: as many as the pre-empting task's ECB has.
 fn ecb_only(board: &[u64], i: usize, row: &mut [u64; ROW])
@@ -73,7 +68,7 @@ fn ucb_union(board: &[u64], i: usize, row: &mut [u64; ROW])
 }
 
 // The unions of the ECBs down to each of the tasks above i.
-fn evictors(board: &[u64], i: usize) -> [u64; EVICTORS]
+pub fn evictors(board: &[u64], i: usize) -> [u64; EVICTORS]
     requires { ⌜ Lent (now board) (i + 1) ⌝ }
     ensures { λ r. ⌜ Evictors (now (board .entry)) i r ⌝ }
 {
@@ -132,20 +127,4 @@ pub fn charge_at(row: &[u64], method: u64, j: usize) -> Charge
         return Charge::Victim(hit_at(row, j));
     }
     Charge::NoVictim(Reloads(row[j]))
-}
-
-// What each task above i asks for at an activation, under one of the methods 0 to 4.
-pub fn weights(board: &[u64], method: u64, i: usize) -> [u64; 32]
-    requires { ⌜ (method ≤ 4) × Lent (now board) (i + 1) ⌝ }
-    ensures { λ r. ⌜ r ≡ front 0 (weightOn (now (board .entry)) method i) i ⌝ }
-{
-    let row = charged(board, method, i);
-    let brt = Ticks(board[BRT]);
-    let mut all = [0u64; 32];
-    for j in 0..i {
-        let work = Ticks(board[WORKS + j]);
-        let count = Reloads(row[j]);
-        all[j] = costs::weight(work, count, brt).0;
-    }
-    all
 }

@@ -15,7 +15,9 @@ use Rattle.tasks.specs.declared.Task.{Task}
 use Rattle.tasks.specs.Tasks.{nameIn, blank}
 use Rattle.faults.specs.Faults.{taskFault}
 use Rattle.table.specs.declared.Table.{Table}
-use Rattle.readable.specs.Tests.{isFine, lineOfTask, isVacant, namesBefore, isPlaced, everyBelow}
+use Rattle.readable.specs.Tests.{isFine, lineOfTask, isVacant, namesBefore, isPlaced, lineOfAccess, isUnused, isAllowed, everyBelow}
+use Rattle.accesses.specs.declared.Access.{Access}
+use Rattle.access_lines.specs.AccessLines.{accessFault}
 
 -- ---- every number below n
 
@@ -50,13 +52,22 @@ every-not (suc n) p k h e = elim (decLt k n) [
 -- ---- a place, and the names before it
 
 module _ (table : Table) (k : ℕ) where
-  pub next-placed : k < table .count → isFine (taskFault k (namesBefore table k) (lineOfTask (table .sets) (getD (table .tasks) k blank))) ≡ isPlaced table k
+  pub next-placed : k < table .count → isFine (taskFault false k (namesBefore table k) (lineOfTask (table .sets) (getD (table .tasks) k blank))) ≡ isPlaced table k
   unfolding isPlaced
   next-placed h = rw (lt-ltb k (table .count) h)
 
   pub vacant-placed : table .count ≤ k → isVacant (getD (table .tasks) k blank) ≡ isPlaced table k
   unfolding isPlaced
   vacant-placed h = rw (le-ltb k (table .count) h)
+
+module _ (held count sets n : ℕ) (a : Access) where
+  pub next-allowed : n < held → isFine (accessFault n count (lineOfAccess sets a)) ≡ isAllowed held count sets n a
+  unfolding isAllowed
+  next-allowed h = rw (lt-ltb n held h)
+
+  pub unused-allowed : held ≤ n → isUnused a ≡ isAllowed held count sets n a
+  unfolding isAllowed
+  unused-allowed h = rw (le-ltb n held h)
 
 map-snoc : {X Y : Type 0} (f : X → Y) (l : List X) (x : X) → map f (l ++ (x ∷ [])) ≡ map f l ++ (f x ∷ [])
 map-snoc f [] x = refl

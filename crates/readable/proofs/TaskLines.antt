@@ -51,7 +51,7 @@ same-is (b ∷ s) (c ∷ t) e =
 -- ---- a name
 
 -- a name that is filled up is what its text is packed to
-filled-name : (n : Name) → isFilled n ≡ true → (isName (nameText n) ≡ true) × (packName (nameText n) ≡ n)
+pub filled-name : (n : Name) → isFilled n ≡ true → (isName (nameText n) ≡ true) × (packName (nameText n) ≡ n)
 unfolding isFilled
 filled-name n e =
     let p = and-eq-true-iff (isName (nameText n)) _ .0 e in
@@ -89,7 +89,7 @@ unfolding everyByte hexDigits
 digits-plain zero n = refl
 digits-plain (suc k) n = plain-append (hexDigits k (n / 16)) (hexByte (n % 16) ∷ []) (digits-plain k (n / 16)) (rw (hex-byte-plain (n % 16)))
 
-marks-plain : (sets : ℕ) (c : CacheSet) → Plain (marksText sets c)
+pub marks-plain : (sets : ℕ) (c : CacheSet) → Plain (marksText sets c)
 unfolding marksText
 marks-plain sets c = digits-plain (sets / 4) (numberOf c)
 
@@ -106,14 +106,14 @@ bytes-plain (b ∷ s) e =
     let p = and-eq-true-iff (isNameByte b) (everyByte isNameByte s) .0 e in
     rw (name-byte-plain b (p .0)) (bytes-plain s (p .1))
 
-name-plain : (s : List ℕ) → isName s ≡ true → Plain s
+pub name-plain : (s : List ℕ) → isName s ≡ true → Plain s
 unfolding isName
 name-plain s e = bytes-plain s (and-eq-true-iff (leb 1 (length s) && leb (length s) 12) (everyByte isNameByte s) .0 e .1)
 
 -- ---- what a written line says
 
 -- a line that has its kind's letter and number of fields has its kind's shape
-shape-is : (letter n : ℕ) (fs : List (List ℕ)) → AllPlain ((letter ∷ []) ∷ fs) → length fs + 1 ≡ n → hasShape letter n (joined (letter ∷ []) fs) ≡ true
+pub shape-is : (letter n : ℕ) (fs : List (List ℕ)) → AllPlain ((letter ∷ []) ∷ fs) → length fs + 1 ≡ n → hasShape letter n (joined (letter ∷ []) fs) ≡ true
 unfolding hasShape
 shape-is letter n fs p e =
     rw (field-at 0 (letter ∷ []) fs p (omega arith), eq-eqb letter letter refl, tabs-joined (letter ∷ []) fs p, eq-eqb (length fs + 1) n e)
@@ -217,13 +217,13 @@ letter-is b (c ∷ d ∷ s) e =
     absurd (omega arith)
 
 -- its letter, and how many tabs it has
-shape-says : (letter n : ℕ) (line : List ℕ) → hasShape letter n line ≡ true → (field 0 line ≡ letter ∷ []) × (occurrences 9 line + 1 ≡ n)
+pub shape-says : (letter n : ℕ) (line : List ℕ) → hasShape letter n line ≡ true → (field 0 line ≡ letter ∷ []) × (occurrences 9 line + 1 ≡ n)
 unfolding hasShape
 shape-says letter n line e =
     let p = and-eq-true-iff (isLetter letter (field 0 line)) (eqb (fieldCount line) n) .0 e in
     (letter-is letter (field 0 line) (p .0), eqb-true (fieldCount line) n (p .1))
 
-marks-are : (r : SetField) → isMarks r ≡ true → r ≡ Marks (marksOf r)
+pub marks-are : (r : SetField) → isMarks r ≡ true → r ≡ Marks (marksOf r)
 marks-are (Marks c) e = refl
 marks-are Bad e = absurd (false≢true e)
 

@@ -2,7 +2,7 @@
 use Prim.Native.Nat.{ℕ, zero, suc}
 use mathlib.Core.Bool.{Bool, true, false, cond, _&&_}
 use mathlib.Core.List.{List, map}
-use lib.Dec.{ltb, eqb}
+use lib.Dec.{ltb, leb, eqb}
 use lib.ListN.{length, take, drop, getD, replicate}
 use Rattle.fields.specs.Bytes.{sameBytes}
 use Rattle.fields.specs.Fields.{isName}
@@ -13,9 +13,14 @@ use Rattle.tasks.specs.declared.TaskLine.{TaskLine}
 use Rattle.tasks.specs.Tasks.{nameText, nameIn, blank}
 use Rattle.faults.specs.declared.Finding.{Finding}
 use Rattle.faults.specs.declared.Finding.the-variants.{Fine, Fault}
-use Rattle.faults.specs.Faults.{isWithin, headFault, taskFault}
+use Rattle.faults.specs.Faults.{isWithin, headFault, taskFault, blockedFault}
+use Rattle.accesses.specs.declared.Access.{Access}
+use Rattle.accesses.specs.Accesses.{emptyAccess}
+use Rattle.access_lines.specs.declared.AccessLine.{AccessLine}
+use Rattle.access_lines.specs.AccessLines.{accessFault}
 use Rattle.marks.specs.Marks.{marksFit}
 use Rattle.table.specs.declared.Table.{Table}
+use Rattle.table.specs.Tasks.{tasksOf}
 
 abbrev pub isFine : Finding → Bool
 isFine Fine = true
@@ -63,7 +68,7 @@ namesBefore table k = map nameIn (take k (table .tasks))
 unfoldable pub isPlaced : Table → ℕ → Bool
 isPlaced table k =
     cond (ltb k (table .count))
-    (isFine (taskFault k (namesBefore table k) (lineOfTask (table .sets) (getD (table .tasks) k blank))))
+    (isFine (taskFault false k (namesBefore table k) (lineOfTask (table .sets) (getD (table .tasks) k blank))))
     (isVacant (getD (table .tasks) k blank))
 
 -- a test passes for every number below n
@@ -71,6 +76,33 @@ unfoldable pub everyBelow : ℕ → (ℕ → Bool) → Bool
 everyBelow zero p = true
 everyBelow (suc n) p = everyBelow n p && p n
 
--- line 1 is not refused, there are 1 to 32 tasks, and every place holds what it may
+-- what the line of an access says, in a table of so many cache sets: its names are those of tasks, at the positions that it has
+unfoldable pub lineOfAccess : ℕ → Access → AccessLine
+lineOfAccess sets a = record {
+  shaped = true;
+  named = true;
+  numbered = true;
+  marked = marksFit sets (a .ucb);
+  access = a;
+}
+
+-- an access place without an access: zeros alone
+unfoldable pub isUnused : Access → Bool
+isUnused a = eqb (a .task) 0 && eqb (a .ceiling) 0 && eqb (a .lasts .0) 0 && marksFit 0 (a .ucb)
+
+-- what access place n of so many may hold: an access whose line is not refused after those before it; past the last access, none
+unfoldable pub isAllowed : (held count sets n : ℕ) → Access → Bool
+isAllowed held count sets n a = cond (ltb n held) (isFine (accessFault n count (lineOfAccess sets a))) (isUnused a)
+
+abbrev pub isEntered : Table → ℕ → Bool
+isEntered table n = isAllowed (table .«access_count») (table .count) (table .sets) n (getD (table .accesses) n emptyAccess)
+
+-- line 1 is not refused, there are 1 to 32 tasks and at most 32 accesses, every place holds what it may, and no B stands beside accesses
 unfoldable pub isReadable : Table → Bool
-isReadable table = isFine (headFault (headOf table)) && isWithin 1 32 (table .count) && everyBelow 32 (isPlaced table)
+isReadable table =
+    isFine (headFault (headOf table))
+    && isWithin 1 32 (table .count)
+    && leb (table .«access_count») 32
+    && everyBelow 32 (isPlaced table)
+    && everyBelow 32 (isEntered table)
+    && isFine (blockedFault (table .«access_count») (tasksOf table))

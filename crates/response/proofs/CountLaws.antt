@@ -264,11 +264,11 @@ started-next c d n t counts ends few own enough ranged p = record {
         (omega (arith, demand-shift c d t s n, demand-next d t s n, more)) in
         omega (arith, p .under (w .0) (w .2) j l, activations-mono (w .0) s (w .1) (t j) (t j) (no-more-self (t j) (ranged j (omega arith))))
 
--- for terms of the same periods and jitters that ask for more they are counts to start from as well
-pub started-harder : (own n : ℕ) (t f : ℕ → Term) (counts ends : List ℕ) → ((j : ℕ) → j < n → InRange (t j))
+-- for terms of the same periods and jitters that ask for more, and more work of the task's own, they are counts to start from as well
+pub started-harder : (c d n : ℕ) (t f : ℕ → Term) (counts ends : List ℕ) → ((j : ℕ) → j < n → InRange (t j))
     → ((j : ℕ) → j < n → NoMore (t j) (f j)) → ((j : ℕ) → j < n → (f j .period ≡ t j .period) × (f j .jitter ≡ t j .jitter))
-    → Started own t n counts ends → Started own f n counts ends
-started-harder own n t f counts ends ranged more same p = record {
+    → c ≤ d → Started c t n counts ends → Started d f n counts ends
+started-harder c d n t f counts ends ranged more same own p = record {
   long = p .long;
   ends-long = p .ends-long;
   soon = p .soon;
@@ -276,7 +276,7 @@ started-harder own n t f counts ends ranged more same p = record {
   under = under;
 }
   where
-    under : (s : ℕ) → s ≡ demandOf own f n s → (j : ℕ) → j < n → getD counts j 0 ≤ activationsOf s (f j)
+    under : (s : ℕ) → s ≡ demandOf d f n s → (j : ℕ) → j < n → getD counts j 0 ≤ activationsOf s (f j)
     under s e j l =
-        let w = solution-under _ (demand-mono t n own ranged) s (omega (arith, demand-more t f n own more s)) in
+        let w = solution-under _ (demand-mono t n c ranged) s (omega (arith, demand-more t f n c d own more s)) in
         omega (arith, p .under (w .0) (w .2) j l, activations-mono (w .0) s (w .1) (t j) (f j) (more j l))

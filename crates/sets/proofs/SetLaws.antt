@@ -116,6 +116,10 @@ pub size-le : (A : Set) → size A ≤ 256
 unfolding size
 size-le = size-below-le 256
 
+pub size-none : size ∅ ≡ 0
+unfolding ∅ size sizeBelow
+size-none = refl
+
 pub size-inter-left : (A B : Set) → size (A ∩ B) ≤ size A
 size-inter-left A B = size-mono (A ∩ B) A (inter-left A B)
 

@@ -1,4 +1,4 @@
--- The task of a line that is not refused: all that specs/Accepted.antt names of a task holds of it.
+-- The task or the access of a line that is not refused: all that specs/Accepted.antt names of one holds of it.
 -- Assumes nothing.
 use Prim.Native.Nat.{ℕ, _%_}
 use mathlib.Core.Path.{_≡_, refl}
@@ -16,7 +16,9 @@ use Rattle.tasks.specs.Tasks.{nameText, packName}
 use Rattle.tasks.specs.Said.{isMarks, marksOf, timesSaid, fieldsSaid, taskSaid}
 use Rattle.tasks.proofs.Names.{name-kept}
 use Rattle.faults.proofs.LineLaws.{TaskHolds, ranges, order}
-use Rattle.table.specs.Accepted.{MarksBelow, AcceptedTask}
+use Rattle.access_lines.specs.AccessLines.{accessSaid, accessFieldsSaid}
+use Rattle.access_lines.proofs.Holds.{AccessHolds}
+use Rattle.table.specs.Accepted.{MarksBelow, AcceptedTask, AcceptedAccess}
 
 marks-below : (sets : ℕ) (f : List ℕ) (r : SetField) → sets % 4 ≡ 0 → readSet sets f ≡ r → isMarks r ≡ true → MarksBelow sets (members (marksOf r))
 marks-below sets f (Marks c) by-four e h = read-below sets f c by-four e
@@ -51,3 +53,14 @@ module _ (sets : ℕ) (line : List ℕ) (count : ℕ) (names : List Name) (by-fo
   pub name-filled : taskSaid sets line .task .name ≡ packName (nameText (taskSaid sets line .task .name))
   unfolding taskSaid timesSaid fieldsSaid
   name-filled = rw (name-kept (field 1 line) is-name)
+
+-- the access of such a line may be taken
+pub access-accepted : (sets : ℕ) (names : List Name) (line : List ℕ) (above count : ℕ) → sets % 4 ≡ 0 → AccessHolds above count (accessSaid sets names line)
+    → AcceptedAccess sets count (accessSaid sets names line .access)
+unfolding accessSaid accessFieldsSaid
+access-accepted sets names line above count by-four h = record {
+  task = h .of-task;
+  ceiling = h .under;
+  lasts = h .lasts;
+  ucb = marks-below sets (field 4 line) _ by-four refl (h .marked);
+}

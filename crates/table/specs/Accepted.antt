@@ -3,13 +3,15 @@
 use Prim.Native.Nat.{ℕ, _%_, _≤_, _<_}
 use mathlib.Core.Bool.{true}
 use mathlib.Core.Path.{_≡_}
+use lib.ListN.{length}
 use Rattle.fields.specs.Fields.{isName}
 use Rattle.sets.specs.Sets.{Set}
 use Rattle.sets.specs.Words.{members}
 use Rattle.tasks.specs.declared.Task.{Task}
 use Rattle.tasks.specs.Tasks.{nameText}
 use Rattle.table.specs.declared.Table.{Table}
-use Rattle.table.specs.Tasks.{at}
+use Rattle.accesses.specs.declared.Access.{Access}
+use Rattle.table.specs.Tasks.{at, accessAt}
 
 -- every mark is below the number of cache sets
 abbrev pub MarksBelow : ℕ → Set → Type 0
@@ -25,6 +27,13 @@ pub record AcceptedTask (sets : ℕ) (t : Task) : Type 0 where
   pub ucb : MarksBelow sets (members (t .ucb))
   pub ecb : MarksBelow sets (members (t .ecb))
 
+-- the task and the ceiling are positions of tasks, since the ceiling is the task or above it
+pub record AcceptedAccess (sets count : ℕ) (a : Access) : Type 0 where
+  pub task : a .task < count
+  pub ceiling : a .ceiling ≤ a .task
+  pub lasts : (1 ≤ a .lasts .0) × (a .lasts .0 ≤ 250000000)
+  pub ucb : MarksBelow sets (members (a .ucb))
+
 pub record AcceptedTable (table : Table) : Type 0 where
   pub sets : (4 ≤ table .sets) × (table .sets ≤ 256)
   pub by-four : table .sets % 4 ≡ 0
@@ -33,3 +42,7 @@ pub record AcceptedTable (table : Table) : Type 0 where
   pub few : table .count ≤ 32
   pub tasks : (k : ℕ) → k < table .count → AcceptedTask (table .sets) (at table k)
   pub distinct : (j k : ℕ) → j < k → k < table .count → nameText (at table j .name) ≡ nameText (at table k .name) → ⊥
+  pub few-accesses : table .«access_count» ≤ 32
+  pub listed : table .«access_count» ≤ length (table .accesses)
+  pub accesses : (n : ℕ) → n < table .«access_count» → AcceptedAccess (table .sets) (table .count) (accessAt table n)
+  pub unblocked : 1 ≤ table .«access_count» → (k : ℕ) → k < table .count → at table k .blocking .0 ≡ 0

@@ -1,23 +1,26 @@
-// Tables of tasks, and the reader of a table text: the accepted table, or the number and line of the first refusal.
+// Tables of tasks and accesses, and the reader of a table text: the accepted table, or the number and line of the first refusal.
 // specs/Reading.antt says what a whole text is, line after line.
+use accesses::Access;
 use faults::Finding;
 use sets::CacheSet;
 use tasks::Name;
 use tasks::Task;
 use units::Ticks;
 ghost use mathlib.Core.Path.{_≡_};
-ghost use Prim.Native.Nat.{_<_};
+ghost use Prim.Native.Nat.{_<_, _≤_};
 ghost use lib.ListN.{length};
 ghost use Rattle.text.specs.Cut.{lines};
 ghost use Rattle.table.specs.Tasks.{newTable};
-ghost use Rattle.table.specs.Reading.{refused, readFrom, readLines, readText};
+ghost use Rattle.table.specs.Reading.{refused, finished, TasksRead, readFrom, readLines, readText};
 
-// A table: its first `count` tasks, the highest priority first.
+// A table: its first `count` tasks, the highest priority first, and its first `access_count` accesses.
 pub struct Table {
     pub sets: u64,
     pub brt: Ticks,
     pub count: usize,
     pub tasks: [Task; 32],
+    pub access_count: usize,
+    pub accesses: [Access; 32],
 }
 
 // A refusal's number, and the line that it tells.
@@ -37,7 +40,7 @@ pub struct Outcome {
     pub table: Table,
 }
 
-// A table of no task yet.
+// A table of no task yet, and of no access.
 fn new_table(sets: u64, brt: u64) -> Table
     ensures { λ r. ⌜ r ≡ newTable sets brt ⌝ }
 {
@@ -51,11 +54,19 @@ fn new_table(sets: u64, brt: u64) -> Table
         ucb: CacheSet::EMPTY,
         ecb: CacheSet::EMPTY,
     };
+    let unused = Access {
+        task: 0,
+        ceiling: 0,
+        lasts: Ticks(0),
+        ucb: CacheSet::EMPTY,
+    };
     Table {
         sets,
         brt: Ticks(brt),
         count: 0,
         tasks: [none; 32],
+        access_count: 0,
+        accesses: [unused; 32],
     }
 }
 
@@ -70,6 +81,58 @@ fn refuse(number: u64, line: u64) -> Outcome
     }
 }
 
+// What is answered after the last line.
+fn finish(table: Table) -> Outcome
+    requires { ⌜ table .count ≤ 32 ⌝ }
+    ensures { λ r. ⌜ r ≡ finished table ⌝ }
+{
+    let count = table.count;
+    let tasks = table.tasks;
+    if count == 0 {
+        return refuse(11, 1);
+    }
+    if let Finding::Fault(number) = faults::blocked_fault(table.access_count, count, tasks) {
+        return refuse(number, faults::first_blocked(count, tasks) as u64 + 2);
+    }
+    Outcome {
+        ruling: Ruling::Accepted,
+        table,
+    }
+}
+
+// The lines from the first on that is no task line: `names` has the tasks' names.
+fn read_accesses(given: Table, names: [Name; 32], input: &[u8], first: u64) -> Outcome
+    requires { ⌜ TasksRead given names (now input) first ⌝ }
+    ensures { λ r. ⌜ r ≡ readFrom first given (lines (now (input .entry))) ⌝ }
+{
+    let mut table = given;
+    let mut rest = input;
+    let mut line = first;
+    while 0 < rest.len() {
+        let next_line = text::before(rest, b'\n');
+        let letter = text::before(next_line, b'\t');
+        let count = table.count;
+        if fields::is_letter(letter, b'T') {
+            return refuse(if 32 <= count { 10 } else { 3 }, line);
+        }
+        if !fields::is_letter(letter, b'A') {
+            return refuse(3, line);
+        }
+        let said = access_lines::access_said(table.sets, count, names, next_line);
+        let above = table.access_count;
+        if let Finding::Fault(number) = access_lines::access_fault(above, count, said) {
+            return refuse(number, line);
+        }
+        let access = said.access;
+        table.accesses[above] = access;
+        table.access_count = above + 1;
+        let next = text::past(rest, b'\n', next_line);
+        rest = next;
+        line += 1;
+    }
+    finish(table)
+}
+
 // The lines below line 1. The names stand in an array of their own too, which is small enough to be passed with each line.
 fn read_tasks(sets: u64, brt: u64, input: &[u8]) -> Outcome
     ensures { λ r. ⌜ r ≡ readFrom 2 (newTable sets brt) (lines (now (input .entry))) ⌝ }
@@ -81,6 +144,10 @@ fn read_tasks(sets: u64, brt: u64, input: &[u8]) -> Outcome
     let mut line: u64 = 2;
     while 0 < rest.len() {
         let next_line = text::before(rest, b'\n');
+        let letter = text::before(next_line, b'\t');
+        if !fields::is_letter(letter, b'T') {
+            return read_accesses(table, names, rest, line);
+        }
         let said = tasks::task_said(table.sets, next_line);
         let count = table.count;
         if let Finding::Fault(number) = faults::task_fault(count, names, said) {

@@ -1,21 +1,24 @@
 // The text of a table. specs/TableText.antt has it line by line.
+use accesses::Access;
 use delivery::Written;
 use delivery::deliver;
 use marks::put_marks;
 use sets::CacheSet;
 use table::Table;
+use tasks::Name;
 use tasks::Task;
 use writer::put_byte;
 use writer::put_field;
 use writer::put_number_field;
 ghost use Prim.Native.Nat.{_+_, _≤_};
 ghost use mathlib.Core.List.{flatMap};
-ghost use lib.ListN.{length, take};
+ghost use lib.ListN.{length};
+ghost use Rattle.table.specs.Tasks.{tasksOf, accessesOf};
 ghost use Rattle.table.specs.Accepted.{AcceptedTable};
 ghost use Rattle.writer.specs.Text.{afterTab};
 ghost use Rattle.writer.specs.Wrote.{Wrote};
 ghost use Rattle.marks.specs.Marks.{marksText};
-ghost use Rattle.table_text.specs.TableText.{headText, timeTexts, taskText};
+ghost use Rattle.table_text.specs.TableText.{headText, timeTexts, taskText, accessText, accessTextIn};
 ghost use Rattle.table_text.specs.Delivered.{TableDelivered};
 
 // Line 1, at the start of out.
@@ -70,8 +73,8 @@ fn put_task(out: &mut [u8], at: usize, sets: u64, task: Task) -> usize
 fn put_tasks(out: &mut [u8], at: usize, table: Table) -> usize
     requires { ⌜ AcceptedTable table ⌝ }
     requires { ⌜ at ≤ 13 ⌝ }
-    requires { ⌜ 6253 ≤ length (now out) ⌝ }
-    ensures { λ r. ⌜ Wrote (now (out .entry)) at (flatMap (taskText (table .sets)) (take (table .count) (table .tasks))) (now (out .exit)) r ⌝ }
+    requires { ⌜ 9293 ≤ length (now out) ⌝ }
+    ensures { λ r. ⌜ Wrote (now (out .entry)) at (flatMap (taskText (table .sets)) (tasksOf table)) (now (out .exit)) r ⌝ }
 {
     let sets = table.sets;
     let n = table.count;
@@ -83,13 +86,60 @@ fn put_tasks(out: &mut [u8], at: usize, table: Table) -> usize
     next
 }
 
+// The line of an access, with the names of its task and of its ceiling.
+fn put_access(
+    out: &mut [u8],
+    at: usize,
+    sets: u64,
+    task: Name,
+    ceiling: Name,
+    access: Access,
+) -> usize
+    requires { ⌜ sets ≤ 256 ⌝ }
+    requires { ⌜ at + length (accessText sets task ceiling access) ≤ length (now out) ⌝ }
+    ensures { λ r. ⌜ Wrote (now (out .entry)) at (accessText sets task ceiling access) (now (out .exit)) r ⌝ }
+{
+    let name = task.bytes;
+    let top = ceiling.bytes;
+    let letter = put_byte(out, at, b'A');
+    let named = put_field(out, letter, text::before(&name, 0));
+    let topped = put_field(out, named, text::before(&top, 0));
+    let timed = put_number_field(out, topped, access.lasts.0);
+    let useful = put_set(out, timed, sets, access.ucb);
+    put_byte(out, useful, b'\n')
+}
+
+// The lines of all accesses, after those of the tasks, none of which has a B.
+fn put_accesses(out: &mut [u8], at: usize, table: Table) -> usize
+    requires { ⌜ AcceptedTable table ⌝ }
+    requires { ⌜ (1 ≤ table .«access_count» → at ≤ 5997) ⌝ }
+    requires { ⌜ 9293 ≤ length (now out) ⌝ }
+    ensures { λ r. ⌜ Wrote (now (out .entry)) at (flatMap (accessTextIn (table .sets) (tasksOf table)) (accessesOf table)) (now (out .exit)) r ⌝ }
+{
+    let sets = table.sets;
+    let n = table.access_count;
+    let mut next = at;
+    for i in 0..n {
+        let access = table.accesses[i];
+        let k = access.task;
+        let h = access.ceiling;
+        let task = table.tasks[k];
+        let ceiling = table.tasks[h];
+        let task_name = task.name;
+        let ceiling_name = ceiling.name;
+        next = put_access(out, next, sets, task_name, ceiling_name, access);
+    }
+    next
+}
+
 // The text of an accepted table. It is written aside and delivered whole.
 pub fn write(table: Table, out: &mut [u8]) -> Written
     requires { ⌜ AcceptedTable table ⌝ }
     ensures { λ r. ⌜ TableDelivered table (now (out .entry)) r (now (out .exit)) ⌝ }
 {
-    let mut draft = [0u8; 6253];
+    let mut draft = [0u8; 9293];
     let head = put_head(&mut draft, table.sets, table.brt.0);
-    let end = put_tasks(&mut draft, head, table);
+    let middle = put_tasks(&mut draft, head, table);
+    let end = put_accesses(&mut draft, middle, table);
     deliver(&draft[..end], out)
 }

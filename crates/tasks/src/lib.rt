@@ -62,7 +62,7 @@ pub fn head_said(line: &[u8]) -> HeadLine
 }
 
 // A name in 12 bytes, filled up with zeros.
-fn pack_name(f: &[u8]) -> Name
+pub fn pack_name(f: &[u8]) -> Name
     ensures { λ r. ⌜ r ≡ packName (now (f .entry)) ⌝ }
 {
     let mut bytes = [0u8; 12];
@@ -77,7 +77,8 @@ fn pack_name(f: &[u8]) -> Name
     Name { bytes }
 }
 
-fn is_marks(f: SetField) -> bool
+// Whether a field is a set of cache sets.
+pub fn is_marks(f: SetField) -> bool
     ensures { λ r. ⌜ r ≡ isMarks f ⌝ }
 {
     match f {
@@ -86,7 +87,8 @@ fn is_marks(f: SetField) -> bool
     }
 }
 
-fn marks_of(f: SetField) -> CacheSet
+// The set, and the empty one where there is none.
+pub fn marks_of(f: SetField) -> CacheSet
     ensures { λ r. ⌜ r ≡ marksOf f ⌝ }
 {
     match f {

@@ -1,5 +1,7 @@
 // Texts, each read, and what the reader answers: a refusal's number and line; or of a table that is accepted its cache sets, its
-// block reload time, how many tasks it has, and of the first its name, C, T, D, J, B and the sizes of UCB and ECB.
+// block reload time, how many tasks it has, and of the first its name, C, T, D, J, B and the sizes of UCB and ECB; and where it has accesses,
+// how many, and of the first the positions of its task and its ceiling, its length and the size of its UCB.
+use accesses::Access;
 use libc::STDOUT_FILENO;
 use table::Refusal;
 use table::Ruling;
@@ -44,6 +46,14 @@ fn say_task(t: Task) {
     say_number(ecb.size().0);
 }
 
+fn say_access(a: Access) {
+    let ucb = a.ucb;
+    say_number(a.task as u64);
+    say_number(a.ceiling as u64);
+    say_number(a.lasts.0);
+    say_number(ucb.size().0);
+}
+
 fn say_table(table: Table) {
     let first = table.tasks[0];
     say(b" accepted");
@@ -51,6 +61,11 @@ fn say_table(table: Table) {
     say_number(table.brt.0);
     say_number(table.count as u64);
     say_task(first);
+    if 0 < table.access_count {
+        say_number(table.access_count as u64);
+        let access = table.accesses[0];
+        say_access(access);
+    }
 }
 
 fn say_answer(input: &[u8]) {
@@ -194,8 +209,66 @@ fn main() {
           T\te1\t1\t20\t20\t0\t0\t0\tf\n",
         b"32 task lines|T\tf1\t1\t20\t20\t0\t0\t0\tf\n;\
           33 task lines|T\tf1\t1\t20\t20\t0\t0\t0\tf\nT\tg1\t1\t20\t20\t0\t0\t0\tf\n;\
-          10 before 3|T\tf1\t1\t20\t20\t0\t0\t0\tf\nU\tg1\t1\t20\t20\t0\t0\t0\tf\n;\
+          10 before 3|T\tf1\t1\t20\t20\t0\t0\t0\tf\nT\tg1\t1\t20\t20\t0\t0\t0\n;\
           line 33 before line 34|U\tf1\t1\t20\t20\t0\t0\t0\tf\nU\tg1\t1\t20\t20\t0\t0\t0\tf\n;\
-          the first name again on line 33|T\ta0\t1\t20\t20\t0\t0\t0\tf\nT\tg1\t1\t20\t20\t0\t0\t0\tf\n;",
+          the first name again on line 33|T\ta0\t1\t20\t20\t0\t0\t0\tf\nT\tg1\t1\t20\t20\t0\t0\t0\tf\n;\
+          31 tasks, an access, a task|A\tc0\ta0\t5\t3\nT\tf1\t1\t20\t20\t0\t0\t0\tf\n;\
+          32 tasks, an access, a task|T\tf1\t1\t20\t20\t0\t0\t0\tf\nA\tc0\ta0\t5\t3\nT\tg1\t1\t20\t20\t0\t0\t0\tf\n;\
+          32 tasks, an access, a bad task line|T\tf1\t1\t20\t20\t0\t0\t0\tf\nA\tc0\ta0\t5\t3\nT\n;\
+          32 tasks and another line|T\tf1\t1\t20\t20\t0\t0\t0\tf\nU\n;\
+          32 tasks and an access|T\tf1\t1\t20\t20\t0\t0\t0\tf\nA\tf1\ta0\t5\t3\n;",
+    );
+    // Three tasks, and what stands below them: an access line, its shape, names, length, set and order.
+    show_all(
+        b"K\t4\t1\nT\ta\t1\t20\t20\t0\t0\t0\tf\nT\tb\t1\t20\t20\t0\t0\t0\tf\nT\tc\t1\t20\t20\t0\t0\t0\tf\n",
+        b"an access|A\tc\ta\t5\t3\n;\
+          its own ceiling|A\tc\tc\t1\t0\n;\
+          the same access again|A\tc\ta\t5\t3\nA\tc\ta\t5\t3\n;\
+          the longest access|A\tb\ta\t250000000\tf\n;\
+          a task line below an access|A\tc\ta\t5\t3\nT\td\t1\t20\t20\t0\t0\t0\tf\n;\
+          a bad task line below an access|A\tc\ta\t5\t3\nT\tA\n;\
+          another line below an access|A\tc\ta\t5\t3\nU\n;\
+          a small a|a\tc\ta\t5\t3\n;\
+          two letters before a name|AA\tc\ta\t5\t3\n;\
+          four fields of an access|A\tc\ta\t5\n;\
+          six fields of an access|A\tc\ta\t5\t3\t\n;\
+          an access of nine fields|A\td\t1\t20\t20\t0\t0\t0\tf\n;\
+          3 before 4 in an access|A\tC\ta\t5\n;\
+          a capital in its task|A\tC\ta\t5\t3\n;\
+          a capital in its ceiling|A\tc\tA\t5\t3\n;\
+          no ceiling|A\tc\t\t5\t3\n;\
+          4 before 5 in an access|A\tc\tA\tx\t3\n;\
+          a bad length|A\tc\ta\t05\t3\n;\
+          5 before 7 in an access|A\tc\ta\tx\tg\n;\
+          length 0|A\tc\ta\t0\t3\n;\
+          length above its range|A\tc\ta\t250000001\t3\n;\
+          6 before 7 in an access|A\tc\ta\t0\tg\n;\
+          a bad UCB of an access|A\tc\ta\t5\tg\n;\
+          7 before 15|A\td\ta\t5\tg\n;\
+          a task that is none|A\td\ta\t5\t3\n;\
+          a ceiling that is none|A\tc\td\t5\t3\n;\
+          a ceiling below the task|A\ta\tc\t5\t3\n;\
+          a ceiling one below|A\tb\tc\t5\t3\n;\
+          a line before the next|A\tc\ta\t5\t3\nA\ta\tc\t5\t3\nA\n;",
+    );
+    show_all(
+        b"K\t4\t1\n",
+        b"B beside an access|T\ta\t1\t20\t20\t0\t0\t0\tf\nT\tb\t1\t20\t20\t0\t1\t0\tf\nT\tc\t1\t20\t20\t0\t2\t0\tf\nA\tc\ta\t5\t3\n;\
+          15 before 17|T\ta\t1\t20\t20\t0\t1\t0\tf\nA\ta\tb\t5\t3\n;\
+          an access and no task|A\tc\ta\t5\t3\n;\
+          an access before the tasks|A\tc\ta\t5\t3\nT\ta\t1\t20\t20\t0\t0\t0\tf\n;",
+    );
+    // A task and 31 accesses, and what stands below them.
+    show_all(
+        b"K\t4\t1\nT\ta\t1\t20\t20\t0\t0\t0\tf\n\
+          A\ta\ta\t1\t0\nA\ta\ta\t1\t0\nA\ta\ta\t1\t0\nA\ta\ta\t1\t0\nA\ta\ta\t1\t0\nA\ta\ta\t1\t0\nA\ta\ta\t1\t0\nA\ta\ta\t1\t0\n\
+          A\ta\ta\t1\t0\nA\ta\ta\t1\t0\nA\ta\ta\t1\t0\nA\ta\ta\t1\t0\nA\ta\ta\t1\t0\nA\ta\ta\t1\t0\nA\ta\ta\t1\t0\nA\ta\ta\t1\t0\n\
+          A\ta\ta\t1\t0\nA\ta\ta\t1\t0\nA\ta\ta\t1\t0\nA\ta\ta\t1\t0\nA\ta\ta\t1\t0\nA\ta\ta\t1\t0\nA\ta\ta\t1\t0\nA\ta\ta\t1\t0\n\
+          A\ta\ta\t1\t0\nA\ta\ta\t1\t0\nA\ta\ta\t1\t0\nA\ta\ta\t1\t0\nA\ta\ta\t1\t0\nA\ta\ta\t1\t0\nA\ta\ta\t1\t0\n",
+        b"32 accesses|A\ta\ta\t1\t0\n;\
+          33 accesses|A\ta\ta\t1\t0\nA\ta\ta\t1\t0\n;\
+          16 before 3|A\ta\ta\t1\t0\nA\n;\
+          32 accesses and a task|A\ta\ta\t1\t0\nT\tb\t1\t20\t20\t0\t0\t0\tf\n;\
+          32 accesses and another line|A\ta\ta\t1\t0\nU\n;",
     );
 }

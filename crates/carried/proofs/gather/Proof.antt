@@ -8,19 +8,13 @@ use Rattle.carried.proofs.gather.Tie as tie
 
 returns : tie.Need-returns
 returns c =
-    let a = c .before .before .before .before .args in
+    let s = c .before .before .before in
+    let a = s .args in
     record {
-      most = c .before .before .larger .ensures ∙ ap (λ (n : ℕ). largerOf (a .gathered .most) (hit n (a .useful .victim))) (c .before .before .before .before .pre);
-      all = c .before .before .before .union .ensures;
-      shared = c .larger2 .ensures ∙ ap (λ (n : ℕ). largerOf (a .gathered .shared) (hit n (a .useful .victim))) (c .before .shared-size .ensures);
+      most = c .before .larger .ensures ∙ ap (λ (n : ℕ). largerOf (a .gathered .most) (hit n (a .useful .victim))) (s .pre);
+      all = c .before .before .union .ensures;
+      shared = c .most-shared .ensures;
     }
 
 pub gather-spec : {M : Type 1} → statement M
-gather-spec =
-    tie.close
-    (tie.spec
-    (λ c κs. search needs)
-    (λ c κs. search needs)
-    (λ c κs. search needs)
-    (λ c κs. search needs)
-    returns)
+gather-spec = tie.close (tie.spec (λ c κs. search needs) (λ c κs. search needs) (λ c κs. search needs) returns)

@@ -1,80 +1,27 @@
--- `faults::is_known` meets its contract. The loop's invariant: the name is one of those from `i` on just if it is one of all.
+-- `faults::is_known` meets its contract: a name is known where a position has it.
 -- Assumes nothing.
-use Prim.Native.Nat.{_≤_, _-_}
-use mathlib.Core.Path.{_≡_, refl, sym, _∙_}
+use mathlib.Core.Path.{_≡_, ap, _∙_}
+use Prim.Native.Nat.{ℕ}
 use native.Mathlib.Omega.{arith}
 use borrow.Author.Needs.{needs}
-use lib.ListN.{length, take, drop}
-use Rattle.faults.specs.Faults.{knows}
-use Rattle.faults.proofs.Known.{length-mapped, knows-step, knows-stop, knows-end}
+use lib.Dec.{ltb}
+use lib.ListN.{length}
+use Rattle.tasks.proofs.Arrays.{length-mapped}
+use Rattle.faults.proofs.Known.{known-below}
 use Rattle.faults.proofs.is_known.Statement.{statement}
 use Rattle.faults.proofs.is_known.Tie as tie
 
-abbrev Inv-loop : tie.InvT-loop
-Inv-loop count name names i₀ i = (i ≤ count) × (knows name (drop i (take count names)) ≡ knows name (take count names))
-
-abbrev μ-loop : tie.MeasureT-loop
-μ-loop count name names i₀ i = count - i
-
 -- the array's list is as long as its type says
-long : (c : tie.At-loop Inv-loop μ-loop) → length (c .before .args .t2) ≡ 32
+long : (c : tie.Start) → length (c .args .names) ≡ 32
 long c =
-    let g = c .before .good in
+    let g = c .good in
     search (length-mapped, needs)
 
-loop-holds : tie.Need-loop-holds Inv-loop μ-loop
-loop-holds c = (search needs, refl)
-
-mul-other : tie.Need-mul-other Inv-loop μ-loop
-mul-other c = omega arith
-
-array-copy-out-other : tie.Need-array-copy-out-other Inv-loop μ-loop
-array-copy-out-other c = omega arith
-
-same-name-requires : tie.Need-same-name-requires Inv-loop μ-loop
-same-name-requires c κs = tt
-
-returns : tie.Need-returns Inv-loop μ-loop
+returns : tie.Need-returns
 returns c =
-    let at = c .before .before .before .before in
-    let a = at .before .args in
-    let l = long at in
-    knows-stop (a .name) (a .t2) (a .count) (at .loop .i) _ (search needs) (omega arith) (sym (c .before .same-name .ensures) ∙ c .if1 .taken)
-    ∙ at .loop .inv .1
-
-add-i : tie.Need-add-i Inv-loop μ-loop
-add-i c = omega arith
-
-loop-less : tie.Need-loop-less Inv-loop μ-loop
-loop-less c = omega arith
-
-loop-again : tie.Need-loop-again Inv-loop μ-loop
-loop-again c =
-    let at = c .before .before .before .before in
-    let a = at .before .args in
-    let l = long at in (
-      omega arith,
-      knows-step (a .name) (a .t2) (a .count) (at .loop .i) _ (search needs) (omega arith) (sym (c .before .same-name .ensures) ∙ c .if1 .left)
-          ∙ at .loop .inv .1,
-    )
-
-returns-2 : tie.Need-returns-2 Inv-loop μ-loop
-returns-2 c =
-    let a = c .before .before .args in
-    knows-end (a .name) (a .t2) (a .count) (c .before .loop .i) (c .loop-test .left) ∙ c .before .loop .inv .1
+    let start = c .before in
+    ap (λ (k : ℕ). ltb k (start .args .count)) (c .position-of .ensures)
+    ∙ known-below (start .args .name) (start .args .names) (start .args .count) (omega (arith, long start))
 
 pub is-known-spec : {M : Type 1} → statement M
-is-known-spec =
-    tie.close
-    (tie.spec
-    Inv-loop
-    μ-loop
-    loop-holds
-    mul-other
-    array-copy-out-other
-    same-name-requires
-    returns
-    add-i
-    loop-less
-    loop-again
-    returns-2)
+is-known-spec = tie.close (tie.spec (λ c κs. search needs) returns)

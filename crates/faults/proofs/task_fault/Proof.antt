@@ -1,6 +1,7 @@
 -- `faults::task_fault` meets its contract: at each `return` the rows so far were passed over, and the last one was met.
 -- Assumes nothing.
 use mathlib.Core.Path.{_≡_, _∙_}
+use mathlib.Core.Bool.{false}
 use borrow.Author.Needs.{needs}
 use borrow.Author.Tests.{le-leb, lt-leb}
 use lib.ListN.{drop, take}
@@ -11,7 +12,7 @@ use Rattle.faults.proofs.task_fault.Tie as tie
 
 -- the rows, and that the first of them are passed over at the place past each test
 abbrev rows : tie.Start → Conditions
-rows c = taskRows (c .args .count) (take (c .args .count) (c .args .names)) (c .args .said)
+rows c = taskRows false (c .args .count) (take (c .args .count) (c .args .names)) (c .args .said)
 
 abbrev start1 : tie.Else1 → tie.Start
 start1 c = c .before .before .before

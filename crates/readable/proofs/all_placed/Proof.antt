@@ -3,14 +3,14 @@
 use Prim.Native.Nat.{_-_, _≤_}
 use mathlib.Core.Path.{_≡_, refl, sym, ap, _∙_}
 use mathlib.Core.Logic.{⊎-elim}
-use mathlib.Core.Bool.{true}
+use mathlib.Core.Bool.{true, false}
 use mathlib.Core.List.{List, map}
 use native.Mathlib.Omega.{arith}
 use borrow.Author.Needs.{needs}
 use borrow.Author.Tests.{not-true, not-false}
 use lib.ListN.{length, take, getD, length-set}
 use Rattle.tasks.specs.Tasks.{nameIn, blank}
-use Rattle.faults.proofs.Known.{length-mapped}
+use Rattle.tasks.proofs.Arrays.{length-mapped}
 use Rattle.tasks.specs.declared.Name.{Name}
 use Rattle.faults.specs.Faults.{taskFault}
 use Rattle.readable.specs.Tests.{isFine, lineOfTask, isPlaced, everyBelow}
@@ -41,7 +41,7 @@ placed c =
     let T = c .before .before .before .before .args .t1 in
     let k = c .before .before .before .loop .k in
     ⊎-elim
-    (λ w. w .2 ∙ w .1 .ensures ∙ ap (λ (l : List Name). isFine (taskFault k l (lineOfTask (T .sets) (getD (T .tasks) k blank)))) (c .before .before .before .loop .inv .1) ∙ next-placed T k (w .0 .taken))
+    (λ w. w .2 ∙ w .1 .ensures ∙ ap (λ (l : List Name). isFine (taskFault false k l (lineOfTask (T .sets) (getD (T .tasks) k blank)))) (c .before .before .before .loop .inv .1) ∙ next-placed T k (w .0 .taken))
     (λ w. w .2 ∙ w .1 .ensures ∙ vacant-placed T k (w .0 .left))
     (c .if1 .came)
 

@@ -6,7 +6,7 @@ use native.Mathlib.Omega.{arith}
 use borrow.Author.Needs.{needs}
 use Rattle.response.proofs.CountLaws.{handed-firsts, started-none}
 use Rattle.board.proofs.LentLaws.{lent-few, lent-long, lent-ranged}
-use Rattle.analysis.proofs.AnswerLaws.{works-handed}
+use Rattle.rows.proofs.RowLaws.{works-handed}
 use Rattle.rows.proofs.RowLaws.{plain-ones, carried-on}
 use Rattle.rows.proofs.carry_on.Statement.{statement}
 use Rattle.rows.proofs.carry_on.Tie as tie
@@ -34,7 +34,7 @@ sub-ends c = let s = c .before .before .before .before .before .before .before .
 returns-3 : tie.Need-returns-3
 returns-3 c =
     let s = c .before .before .before .before .before .before .before .before in
-    carried-on (s .pre .0) _ _ (s .args .i) (s .args .i - 1) (omega arith) (omega arith) (omega arith) (s .pre .1)
+    carried-on (s .pre .0) (s .args .i) (omega arith) _ _ (s .args .i - 1) (omega arith) (omega arith) (s .pre .1)
 
 pub carry-on-spec : {M : Type 1} → statement M
 carry-on-spec =

@@ -6,11 +6,11 @@ use native.Mathlib.Omega.{arith}
 use borrow.Author.Needs.{needs}
 use lib.ListN.{length, take, getD, length-append}
 use Rattle.tasks.specs.Tasks.{blank}
-use Rattle.faults.proofs.Known.{length-mapped}
+use Rattle.tasks.proofs.Arrays.{length-mapped}
 use Rattle.writer.specs.Wrote.{Wrote}
 use Rattle.writer.proofs.Writes.{_then_, nothing, reading, flatMap-take}
 use Rattle.table_text.specs.TableText.{taskText}
-use Rattle.table_text.proofs.Lengths.{lines-short}
+use Rattle.table_text.proofs.Lengths.{tasks-short}
 use Rattle.table_text.proofs.put_tasks.Statement.{statement}
 use Rattle.table_text.proofs.put_tasks.Tie as tie
 
@@ -54,7 +54,7 @@ put-task-requires c κs =
     let in-loop = c .before .before in
     let at-loop = in-loop .before in
     let start = at-loop .before .before in
-    let lines = lines-short (start .args .t3) (start .pre .0) (at-loop .loop .i + 1) (omega arith) in
+    let lines = tasks-short (start .args .t3) (start .pre .0) (at-loop .loop .i + 1) (omega arith) in
     let both = simp length-append at (ap length (next-line in-loop)) in
     (start .pre .0 .sets .1, omega (arith, at-loop .loop .inv .0 .next, both, lines, inside in-loop))
 

@@ -12,13 +12,13 @@ use Rattle.explanation.proofs.lines.put_times.Tie as tie
 
 module _ (c : tie.Start) where
   limited : length (spelled (limitOf (c .args .task))) ≤ 9
-  limited = let timed = c .pre .1 in nine-digits _ (omega (arith, timed .deadline, timed .period-most))
+  limited = let timed = c .pre .1 .0 in nine-digits _ (omega (arith, timed .deadline, timed .period-most))
 
   worked : length (spelled (c .args .task .work .0)) ≤ 9
-  worked = nine-digits _ (omega (arith, c .pre .1 .work))
+  worked = nine-digits _ (omega (arith, c .pre .1 .0 .work))
 
-  blocked : length (spelled (c .args .task .blocking .0)) ≤ 9
-  blocked = nine-digits _ (omega (arith, c .pre .1 .blocking))
+  blocked : length (spelled (c .args .lasts .0)) ≤ 9
+  blocked = nine-digits _ (omega (arith, c .pre .1 .1))
 
 put-number-field-requires-2 : tie.Need-put-number-field-requires-2
 put-number-field-requires-2 c κs =
