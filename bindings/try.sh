@@ -16,7 +16,7 @@ x86_tools "$out/lib"
 
 # $1: what is tried; $2: the program
 holds() {
-    if $emulator "$2" <"$root/examples/figure-3.table" | cmp - "$here/expected"; then
+    if $emulator "$2" <"$root/examples/controller.table" | cmp - "$here/expected"; then
         passed=$((passed + 1))
     else
         failed=$((failed + 1))

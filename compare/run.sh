@@ -80,5 +80,11 @@ for error in 19 20 21 50 51 52; do
     find_error 'table values' "$error"
 done
 find_error 'table values into buffers of every length' 22
+for error in 54 55 56 57 58 59 60 61 62 63 64 65 66 67 68 71; do
+    find_error growths "$error"
+done
+for error in 69 70 72; do
+    find_error 'scaled tables' "$error"
+done
 printf '%s passed, %s failed\n' "$passed" "$failed"
 [ "$failed" = 0 ]

@@ -17,7 +17,7 @@
 /* No explanation is longer. */
 #define CRPD_EXPLANATION_MOST 1317
 
-/* No accepted table text is longer, access lines and all. */
+/* No accepted table text is longer, access lines and all, and neither is that of a scaled table. */
 #define CRPD_TABLE_MOST 9293
 
 /* The response, in ticks, of the task at a position (from 0) under a method (0 to 5), or 0 where the
@@ -38,6 +38,16 @@ uint64_t crpd_explain(const uint8_t *text, size_t text_len, uint64_t method, uin
  * has just one spelling, so of an accepted text it is the same bytes. What follows it in out, and all of out where
  * it is refused, stays as it was. */
 uint64_t crpd_rewrite(const uint8_t *text, size_t text_len, uint8_t *out, size_t out_len);
+
+/* How much growth of execution times is left under a method (0 to 5), in thousandths: the greatest k from 1 to 4000
+ * with which the table still passes, each C replaced by C * k / 1000, rounded up. 0 where none passes; 1000 is the
+ * table as it is, and with 4000 it may well be more. */
+uint64_t crpd_growth(const uint8_t *text, size_t text_len, uint64_t method);
+
+/* The length of the text of the table with that growth, which then stands at the start of out; where the growth is 0,
+ * of the table as it is. CRPD_TABLE_MOST bytes are always enough. What follows it in out, and all of out where it is
+ * refused, stays as it was. */
+uint64_t crpd_scaled(const uint8_t *text, size_t text_len, uint64_t method, uint8_t *out, size_t out_len);
 
 /* As crpd_report, for what the program crpd-report prints: the report, or the line of the text's refusal. Its
  * only refusal is 14, where out is too short. */

@@ -1,5 +1,6 @@
 /* Prints the response of every task of a table under every method, then the report, and then why combined
  * (method 5) answers for the last task what it does, and after that the table itself, read and written again.
+ * Then comes how much growth is left under every method, and the table with the growth that combined leaves.
  * The table is read from standard input. Last comes the same explanation for a task that an access to a shared
  * device may block. */
 #include <stdio.h>
@@ -47,6 +48,14 @@ int main(void) {
         return refused(written);
     fwrite(out, 1, (size_t)written, stdout);
     written = crpd_rewrite(text, len, out, sizeof out);
+    if (crpd_is_refusal(written))
+        return refused(written);
+    fwrite(out, 1, (size_t)written, stdout);
+    printf("growth:");
+    for (uint64_t method = 0; method < 6; method++)
+        printf(" %u", (unsigned)crpd_growth(text, len, method));
+    printf("\n");
+    written = crpd_scaled(text, len, 5, out, sizeof out);
     if (crpd_is_refusal(written))
         return refused(written);
     fwrite(out, 1, (size_t)written, stdout);

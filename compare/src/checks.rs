@@ -1,5 +1,7 @@
 //! Asking the model and the library the same, and telling where they differ.
 
+pub mod growths;
+
 use crate::library;
 use crate::model::value::{Value, NUMBERS};
 use crate::model::{fitting, Error, Explanation, Explanations, Outcome, Refusal, Writing, METHODS};
@@ -15,6 +17,9 @@ pub struct Difference {
     pub model: String,
     pub library: String,
 }
+
+/// Numbers at the ends of what their types hold.
+const ENDS: [u64; 6] = [u64::MAX, 1 << 63, 1 << 32, 1 << 31, 1 << 16, 1 << 8];
 
 /// How much was compared without a difference, or the first difference.
 pub type Compared = Result<u64, Difference>;
@@ -39,10 +44,9 @@ fn questions(outcome: &Outcome) -> Vec<(u64, u64)> {
     let tasks = outcome.rows().len() as u64;
     let positions: Vec<u64> = (0..tasks + 3).collect();
     let methods: Vec<u64> = (0..METHODS + 2).collect();
-    let ends = [u64::MAX, 1 << 63, 1 << 32, 1 << 31, 1 << 16, 1 << 8];
     let mut questions: Vec<(u64, u64)> = pairs(&methods, &positions).collect();
-    questions.extend(pairs(&[0, 5, 6], &ends));
-    questions.extend(pairs(&ends, &[0, tasks, u64::MAX]));
+    questions.extend(pairs(&[0, 5, 6], &ENDS));
+    questions.extend(pairs(&ENDS, &[0, tasks, u64::MAX]));
     questions
 }
 

@@ -3,6 +3,7 @@
 mod access_reasons;
 mod accesses;
 mod explained;
+mod growths;
 mod reasons;
 mod spelled;
 mod values;
@@ -10,7 +11,7 @@ mod values;
 pub use reasons::reasons;
 
 use crate::model::value::Value;
-use crate::model::{Outcome, Row, Table, Task, Writing};
+use crate::model::{Growths, Outcome, Row, Table, Task, Writing};
 use std::collections::{BTreeMap, BTreeSet};
 
 pub type Names = BTreeSet<String>;
@@ -125,7 +126,12 @@ impl Classes {
         for name in names.chain(OF_ROW.iter().map(|class| class.0)) {
             classes.require(name);
         }
-        let further = [accesses::all(), explained::all(), values::all()];
+        let further = [
+            accesses::all(),
+            explained::all(),
+            values::all(),
+            growths::all(),
+        ];
         for name in further.iter().flatten() {
             classes.require(name);
         }
@@ -170,6 +176,13 @@ impl Classes {
 
     pub fn reach_explained_in_rooms(&mut self, outcome: &Outcome) {
         for name in explained::reached_in_rooms(outcome) {
+            self.reach(&name);
+        }
+    }
+
+    /// By a text that was asked for all its growths and scaled tables.
+    pub fn reach_growths(&mut self, text: &[u8], outcome: &Outcome, growths: &Growths) {
+        for name in growths::reached(text, outcome, growths) {
             self.reach(&name);
         }
     }

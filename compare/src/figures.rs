@@ -1,6 +1,7 @@
 //! The worked figures of the rules, and the values they give.
 
 mod accesses;
+mod growths;
 
 use crate::library;
 use crate::model::{Outcome, Refusal};
@@ -21,6 +22,10 @@ pub enum Expected {
     ComesBack(usize),
     /// By the report and by the table written again.
     Refused(Refusal),
+    /// By method.
+    Growths([u64; 6]),
+    /// Method and the scaled table's text.
+    Scaled(u64, Vec<u8>),
 }
 
 /// Room for every report, every explanation and every table.
@@ -81,6 +86,18 @@ impl Figure {
                 let table = library::rewrite(text, &mut [0; ROOMY]);
                 let refused = [report, table] == [refusal.code(); 2];
                 [outcome.refusal() == Some(*refusal), refused]
+            }
+            Expected::Growths(expected) => {
+                let growths = outcome.growths();
+                let methods = || (0..).zip(expected);
+                let by_model = methods().all(|(method, k)| growths.growth(method) == Ok(*k));
+                let by_library = methods().all(|(method, k)| library::growth(text, method) == *k);
+                [by_model, by_library]
+            }
+            Expected::Scaled(method, expected) => {
+                let given = written(|out| library::scaled(text, *method, out));
+                let scaled = outcome.growths().scaled(*method);
+                [scaled.as_ref() == Ok(expected), given == *expected]
             }
         };
         [("model", agree[0]), ("library", agree[1])]
@@ -187,6 +204,7 @@ pub fn all() -> Vec<Figure> {
     figures.extend(tables());
     figures.extend(refusals());
     figures.extend(accesses::all());
+    figures.extend(growths::all());
     figures
 }
 

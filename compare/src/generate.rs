@@ -2,6 +2,7 @@
 
 mod accesses;
 mod families;
+mod growing;
 mod published;
 
 pub use accesses::ACCESSES_MOST;
@@ -9,6 +10,7 @@ pub use families::{
     crossed, edges, full, largest, loaded, near_end, near_limit, shared, small, unions, Family,
     BASES,
 };
+pub use growing::{by_either_union, finely_in_time, just_in_time, nearly_refused};
 pub use published::{
     hardly_a_tick_left, hardly_a_tick_left_if_blocked, no_tick_left, published, share_as_published,
 };
@@ -261,6 +263,10 @@ mod tests {
                 shared(&mut random),
                 crossed(&mut random),
                 near_end(&mut random),
+                just_in_time(&mut random),
+                finely_in_time(&mut random),
+                nearly_refused(&mut random),
+                by_either_union(&mut random),
                 edges(&mut random, TIME_MOST),
                 edges(&mut random, 1_000),
                 full(&mut random, 1_000),

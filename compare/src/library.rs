@@ -2,9 +2,9 @@
 //! place.
 
 #[cfg(not(feature = "library"))]
-pub use crate::plain::{answer, explain, print, report, rewrite, write_value};
+pub use crate::plain::{answer, explain, growth, print, report, rewrite, scaled, write_value};
 #[cfg(feature = "library")]
-pub use linked::{answer, explain, print, report, rewrite};
+pub use linked::{answer, explain, growth, print, report, rewrite, scaled};
 #[cfg(feature = "values")]
 pub use values::write_value;
 
@@ -28,6 +28,14 @@ mod linked {
             text_len: usize,
             method: u64,
             position: u64,
+            out: *mut u8,
+            out_len: usize,
+        ) -> u64;
+        fn crpd_growth(text: *const u8, text_len: usize, method: u64) -> u64;
+        fn crpd_scaled(
+            text: *const u8,
+            text_len: usize,
+            method: u64,
             out: *mut u8,
             out_len: usize,
         ) -> u64;
@@ -57,6 +65,17 @@ mod linked {
         let (start, room) = (out.as_mut_ptr(), out.len());
         // SAFETY: each pointer and length are of one slice that lives over the call
         unsafe { crpd_explain(text.as_ptr(), text.len(), method, position, start, room) }
+    }
+
+    pub fn growth(text: &[u8], method: u64) -> u64 {
+        // SAFETY: the pointer and length are of one slice that lives over the call
+        unsafe { crpd_growth(text.as_ptr(), text.len(), method) }
+    }
+
+    pub fn scaled(text: &[u8], method: u64, out: &mut [u8]) -> u64 {
+        let (start, room) = (out.as_mut_ptr(), out.len());
+        // SAFETY: each pointer and length are of one slice that lives over the call
+        unsafe { crpd_scaled(text.as_ptr(), text.len(), method, start, room) }
     }
 }
 

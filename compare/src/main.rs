@@ -13,6 +13,9 @@ use crpd_compare::random::Random;
 use crpd_compare::shrink::{shrink, shrink_value};
 use crpd_compare::{damage, figures, library, values};
 
+#[path = "main/growths.rs"]
+mod growths;
+
 crpd_compare::entry!(run);
 
 const SEED: u64 = 0x5eed;
@@ -88,6 +91,10 @@ impl Comparison {
                     self.values(&valid);
                     self.value_rooms(&valid);
                 }
+                Part::Growing => {
+                    let spoiled = self.spoiled_texts();
+                    self.growths(&valid, &spoiled);
+                }
             }
             return;
         }
@@ -105,6 +112,9 @@ impl Comparison {
         self.values(&valid);
         self.value_rooms(&valid);
         self.value_lists();
+        self.growths(&valid, &refused);
+        self.growth_ends(&valid, &refused);
+        self.scaled_rooms(&refused);
         if self.options.percent == 100 {
             self.class_counts();
         }
@@ -379,12 +389,7 @@ impl Comparison {
 
     fn tell(&self, group: &str, check: Check, text: &[u8], difference: Difference) {
         let differs = |text: &[u8]| checks::differs(check, text, self.options.error);
-        let least = shrink(text, &|text| differs(text).is_some());
-        tell_difference(group, &differs(&least).unwrap_or(difference));
-        println!("  the smallest text that shows it ({} bytes):", least.len());
-        for line in least.split_inclusive(|byte| *byte == b'\n') {
-            println!("    {}", line.escape_ascii());
-        }
+        tell_least(group, text, difference, &differs);
     }
 
     fn tell_value(&self, group: &str, check: ValueCheck, value: &Value, difference: Difference) {
@@ -447,6 +452,21 @@ fn tell_wrong_reason(spoiled: &damage::Spoiled, outcome: &Outcome) {
         outcome.refusal(),
         spoiled.text.escape_ascii()
     );
+}
+
+/// Tells the difference of the smallest text found that shows one.
+fn tell_least(
+    group: &str,
+    text: &[u8],
+    difference: Difference,
+    differs: &dyn Fn(&[u8]) -> Option<Difference>,
+) {
+    let least = shrink(text, &|text| differs(text).is_some());
+    tell_difference(group, &differs(&least).unwrap_or(difference));
+    println!("  the smallest text that shows it ({} bytes):", least.len());
+    for line in least.split_inclusive(|byte| *byte == b'\n') {
+        println!("    {}", line.escape_ascii());
+    }
 }
 
 fn tell_difference(group: &str, difference: &Difference) {

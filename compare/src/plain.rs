@@ -2,10 +2,12 @@
 //! in for it where it is not linked.
 
 mod explain;
+mod growth;
 mod reading;
 mod table;
 
 pub use explain::{explain, explain_within};
+pub use growth::{growth, scaled};
 pub use reading::read;
 pub use table::{rewrite, spell, write_value};
 

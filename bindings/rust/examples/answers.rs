@@ -1,6 +1,7 @@
 //! Prints the response of every task of a table under every method, then the report, and then why
 //! combined (method 5) answers for the last task what it does, and after that the table itself, read and
-//! written again. The table is read from standard input. Last comes the same explanation for a task that
+//! written again. Then comes how much growth is left under every method, and the table with the growth that
+//! combined leaves. The table is read from standard input. Last comes the same explanation for a task that
 //! an access to a shared device may block.
 use std::io::{Read, Write};
 
@@ -43,6 +44,15 @@ fn main() -> std::io::Result<()> {
     assert!(length <= crpd::EXPLANATION_MOST);
     std::io::stdout().write_all(&out[..length])?;
     let length = crpd::rewrite(&text, &mut out).expect("an accepted table comes back, and it fits");
+    std::io::stdout().write_all(&out[..length])?;
+    print!("growth:");
+    for method in 0..6 {
+        let k = crpd::growth(&text, method).expect("an accepted table has a growth");
+        print!(" {k}");
+    }
+    println!();
+    let length =
+        crpd::scaled(&text, 5, &mut out).expect("an accepted table is scaled, and it fits");
     std::io::stdout().write_all(&out[..length])?;
     let length = crpd::explain(SHARED, 5, 1, &mut out)
         .expect("it has a second task, whose explanation fits");

@@ -7,7 +7,7 @@ pub const REPORT_MOST: usize = 2746;
 /// No explanation is longer.
 pub const EXPLANATION_MOST: usize = 1317;
 
-/// No accepted table text is longer, access lines and all.
+/// No accepted table text is longer, access lines and all, and neither is that of a scaled table.
 pub const TABLE_MOST: usize = 9293;
 
 #[link(name = "crpd", kind = "static")]
@@ -23,6 +23,14 @@ extern "C" {
         out_len: usize,
     ) -> u64;
     fn crpd_rewrite(text: *const u8, text_len: usize, out: *mut u8, out_len: usize) -> u64;
+    fn crpd_growth(text: *const u8, text_len: usize, method: u64) -> u64;
+    fn crpd_scaled(
+        text: *const u8,
+        text_len: usize,
+        method: u64,
+        out: *mut u8,
+        out_len: usize,
+    ) -> u64;
     fn crpd_print(text: *const u8, text_len: usize, out: *mut u8, out_len: usize) -> u64;
 }
 
@@ -72,6 +80,22 @@ pub fn explain(text: &[u8], method: u64, position: u64, out: &mut [u8]) -> Resul
 /// spelling, so of an accepted text it is the same bytes. A refused text leaves `out` as it was.
 pub fn rewrite(text: &[u8], out: &mut [u8]) -> Result<usize, Refusal> {
     let written = unsafe { crpd_rewrite(text.as_ptr(), text.len(), out.as_mut_ptr(), out.len()) };
+    told(written).map(|length| length as usize)
+}
+
+/// How much growth of execution times is left under a method (0 to 5), in thousandths: the greatest k from
+/// 1 to 4000 with which the table still passes, each C replaced by C * k / 1000, rounded up. 0 where none
+/// passes; 1000 is the table as it is, and with 4000 it may well be more.
+pub fn growth(text: &[u8], method: u64) -> Result<u32, Refusal> {
+    told(unsafe { crpd_growth(text.as_ptr(), text.len(), method) })
+}
+
+/// Writes the text of the table with that growth at the start of `out` and gives its length; where the growth
+/// is 0, that of the table as it is. `TABLE_MOST` bytes are always enough. A refused one leaves `out` as it
+/// was.
+pub fn scaled(text: &[u8], method: u64, out: &mut [u8]) -> Result<usize, Refusal> {
+    let (start, room) = (out.as_mut_ptr(), out.len());
+    let written = unsafe { crpd_scaled(text.as_ptr(), text.len(), method, start, room) };
     told(written).map(|length| length as usize)
 }
 

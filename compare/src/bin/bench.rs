@@ -9,6 +9,9 @@ use crpd_compare::{library, model};
 use std::os::raw::c_long;
 use std::time::Duration;
 
+#[path = "bench/growths.rs"]
+mod growths;
+
 crpd_compare::entry!(run);
 
 const USAGE: &str = "usage: bench [--seconds S] [--tables N]";
@@ -124,7 +127,7 @@ fn time_tables(title: &str, texts: &[Vec<u8>], options: &Options) {
     texts.iter().for_each(|text| see_same(text));
     let explained = explained_of(&texts[0]);
     let (mut out, mut plain_out) = (ROOM, ROOM);
-    time_both(
+    let reports = time_both(
         "reports",
         texts,
         options,
@@ -160,6 +163,7 @@ fn time_tables(title: &str, texts: &[Vec<u8>], options: &Options) {
         &mut |text| library::rewrite(text, &mut out),
         &mut |text| plain::rewrite(text, &mut plain_out),
     );
+    growths::time(texts, options, reports);
     time_writing(texts, options);
     time_parts(texts, options);
 }
@@ -224,6 +228,7 @@ fn see_same(text: &[u8]) {
     );
     let same = codes.0 == codes.1 && out == plain_out && out.starts_with(text);
     assert!(same, "the tables differ: {}", text.escape_ascii());
+    growths::see_same(text);
     if let Some(write) = LIBRARY_WRITING {
         out = ROOM;
         let same = write(text, 1, &mut out) == codes.0 && out.starts_with(text);
@@ -237,8 +242,15 @@ fn question(text: &[u8]) -> (u64, u64) {
     (length % 6, length / 6 % 10)
 }
 
-fn time_both(what: &str, texts: &[Vec<u8>], options: &Options, one: Work, other: Work) {
-    time_repeated(what, 1, texts, options, one, other);
+/// How often something was done in a second.
+#[derive(Clone, Copy)]
+struct Rates {
+    library: f64,
+    plain: f64,
+}
+
+fn time_both(what: &str, texts: &[Vec<u8>], options: &Options, one: Work, other: Work) -> Rates {
+    time_repeated(what, 1, texts, options, one, other)
 }
 
 /// Each call does its work `times` times.
@@ -249,20 +261,25 @@ fn time_repeated(
     options: &Options,
     one: Work,
     other: Work,
-) {
+) -> Rates {
     let (mut fastest, mut fastest_plain) = (0f64, 0f64);
     // in turn, so that what else the machine does meets both
     for _ in 0..ROUNDS {
         fastest = fastest.max(rate(texts, options.time / ROUNDS, one));
         fastest_plain = fastest_plain.max(rate(texts, options.time / ROUNDS, other));
     }
+    let rates = Rates {
+        library: fastest * times as f64,
+        plain: fastest_plain * times as f64,
+    };
     println!(
         "  {what:<15} {:>10.0}/s {}, {:>10.0}/s plain, ratio {:.2}",
-        fastest * times as f64,
+        rates.library,
         library::NAME,
-        fastest_plain * times as f64,
-        fastest / fastest_plain
+        rates.plain,
+        rates.library / rates.plain
     );
+    rates
 }
 
 /// How many texts are done in a second. The work on all of them is repeated until `time` is over.
@@ -404,6 +421,7 @@ fn time_bad_table(title: &str, table: &dyn Fn(u64) -> Table) {
             plain_in_words(time, &turns)
         );
         time_explanations(&text);
+        growths::time_on_bad_table(&text);
     }
 }
 

@@ -114,6 +114,44 @@ pub enum Error {
     /// 53: the task's own B is looked at before the accesses that may block it. As it is 0 then, that
     /// shows only in explanations of what is beyond with and without them.
     KeepsOwnBlocking,
+    /// 54: scaled execution times are rounded down.
+    RoundsDown,
+    /// 55: scaled execution times are rounded to the nearest.
+    RoundsToNearest,
+    /// 56: scaled execution times are worked out in 32 bits.
+    MultipliesIn32Bits,
+    /// 57: k goes up to 4,001.
+    TriesOneMore,
+    /// 58: k goes from 1,000 on, so that a table without a verdict of `yes` has no growth.
+    StartsFromWhole,
+    /// 59: 1 is told where no k passes.
+    TellsOneForNone,
+    /// 60: the first k that fails is told.
+    TellsFirstFailing,
+    /// 61: the lengths of accesses are scaled as well.
+    ScalesLengths,
+    /// 62: B is scaled as well.
+    ScalesBlocking,
+    /// 63: T and D are scaled as well.
+    ScalesPeriods,
+    /// 64: a scaled table that is refused counts as `yes`.
+    LetsRefusedPass,
+    /// 65: the verdict is that of the last task.
+    LooksAtLastTask,
+    /// 66: the verdict is that of method 0.
+    TakesVerdictWithoutCosts,
+    /// 67: the combined method's verdict is that of UCB-Union.
+    TakesVerdictOfUsefulUnion,
+    /// 68: the combined method's verdict is `yes` where that of either union is.
+    CombinesVerdicts,
+    /// 69: where no k passes, the table scaled by k = 1 is written.
+    WritesScaledByOne,
+    /// 70: where no k passes, the table scaled by k = 0 is written.
+    WritesScaledByNone,
+    /// 71: a refusal of the text comes before 12.
+    ReadsBeforeMethod,
+    /// 72: 14 is given, before all else, where the text itself would not fit.
+    LooksForRoomOfText,
 }
 
 /// What of the model an error is built into.
@@ -123,11 +161,12 @@ pub enum Part {
     Answering,
     Explaining,
     Writing,
+    Growing,
 }
 
-use Part::{Answering, Explaining, Reading, Writing};
+use Part::{Answering, Explaining, Growing, Reading, Writing};
 
-const ERRORS: [(&str, Error, Part); 54] = [
+const ERRORS: [(&str, Error, Part); 73] = [
     ("1", Error::StartsFromGuess, Answering),
     ("2", Error::JudgesAtLimit, Answering),
     ("3", Error::CombinesPerPair, Answering),
@@ -182,6 +221,25 @@ const ERRORS: [(&str, Error, Part); 54] = [
     ("51", Error::OverlooksBlocking, Writing),
     ("52", Error::OverlooksPastLastAccess, Writing),
     ("53", Error::KeepsOwnBlocking, Explaining),
+    ("54", Error::RoundsDown, Growing),
+    ("55", Error::RoundsToNearest, Growing),
+    ("56", Error::MultipliesIn32Bits, Growing),
+    ("57", Error::TriesOneMore, Growing),
+    ("58", Error::StartsFromWhole, Growing),
+    ("59", Error::TellsOneForNone, Growing),
+    ("60", Error::TellsFirstFailing, Growing),
+    ("61", Error::ScalesLengths, Growing),
+    ("62", Error::ScalesBlocking, Growing),
+    ("63", Error::ScalesPeriods, Growing),
+    ("64", Error::LetsRefusedPass, Growing),
+    ("65", Error::LooksAtLastTask, Growing),
+    ("66", Error::TakesVerdictWithoutCosts, Growing),
+    ("67", Error::TakesVerdictOfUsefulUnion, Growing),
+    ("68", Error::CombinesVerdicts, Growing),
+    ("69", Error::WritesScaledByOne, Growing),
+    ("70", Error::WritesScaledByNone, Growing),
+    ("71", Error::ReadsBeforeMethod, Growing),
+    ("72", Error::LooksForRoomOfText, Growing),
 ];
 
 impl Error {

@@ -3,13 +3,14 @@
 //! It shares nothing with the proved code but the rules: cache sets are sorted lists of numbers,
 //! unions are asked member by member, the text is taken apart by the standard library, a response
 //! is found by trying every number where the limit is small, each access that may block a task has an
-//! equation of its own, and whether a text gives a table value is found by reading what the value
-//! spells.
+//! equation of its own, whether a text gives a table value is found by reading what the value spells,
+//! and a growth by reading the table of every k.
 
 mod blocking;
 mod costs;
 mod error;
 mod explain;
+mod growth;
 mod read;
 mod report;
 mod response;
@@ -19,6 +20,7 @@ mod write;
 pub use costs::METHODS;
 pub use error::{Error, Part};
 pub use explain::{Case, Explanation, Interference, FIGURE_MOST};
+pub use growth::{Growing, Growths, GROWTH_MOST};
 pub use read::{read, Access, Table, Task, ACCESSES_MOST, TASKS_MOST, TEXT_MOST};
 pub use report::{analyse, Analysis, Row};
 pub use write::Writing;
@@ -47,6 +49,7 @@ impl Refusal {
 
 /// All that the model has to say of one text.
 pub struct Outcome {
+    text: Vec<u8>,
     accepted: Result<(Table, Analysis), Refusal>,
     printed: Vec<u8>,
     error: Option<Error>,
@@ -63,6 +66,7 @@ impl Outcome {
             Err(refusal) => format!("E\t{}\t{}\n", refusal.number, refusal.line),
         };
         Outcome {
+            text: text.to_vec(),
             accepted,
             printed: printed.into_bytes(),
             error,
@@ -118,6 +122,18 @@ impl Outcome {
             Ok((table, _)) => Ok(Writing::of(&Value::of(table), self.error)),
             Err(refusal) => Err(*refusal),
         }
+    }
+
+    /// All growths, which takes a while.
+    pub fn growths(&self) -> Growths<'_> {
+        let read = self.accepted.as_ref().map_err(|refusal| *refusal);
+        Growths::new(&self.text, read.map(|(table, _)| table), self.error)
+    }
+
+    /// The table as it grows; none of a text that is refused.
+    pub fn growing(&self) -> Option<Growing<'_>> {
+        let table = self.table()?;
+        Some(Growing::new(&self.text, table, self.error))
     }
 
     pub fn explanations(&self) -> Explanations<'_> {

@@ -120,7 +120,12 @@ fn figure(table: &Table, i: usize, reason: &Reason, end: u64, turns: &mut Turns)
 ///
 /// The shares are rounded down. Where they would come to the whole processor without that, so
 /// little of it is left that the number is past the search's end.
-fn nothing_below(table: &Table, i: usize, mut own: u64, each: &[u64; TASKS_MOST]) -> Option<u64> {
+pub fn nothing_below(
+    table: &Table,
+    i: usize,
+    mut own: u64,
+    each: &[u64; TASKS_MOST],
+) -> Option<u64> {
     let mut left = WHOLE;
     for (task, each) in table.tasks[..i].iter().zip(each) {
         if task.activations(FIGURE_MOST) == 1 {

@@ -3,7 +3,7 @@
 use super::{Access, Refused, Table, Task, Times, Words, ACCESSES_MOST, TASKS_MOST};
 
 const TEXT_MOST: usize = 16_384;
-const TIME_MOST: u64 = 250_000_000;
+pub const TIME_MOST: u64 = 250_000_000;
 
 pub fn read(text: &[u8]) -> Result<Table, Refused> {
     if text.len() > TEXT_MOST {

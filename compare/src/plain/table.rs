@@ -32,7 +32,7 @@ pub fn write_value(numbers: &[u64], out: &mut [u8]) -> u64 {
     }
 }
 
-fn write(table: &Table, out: &mut [u8]) -> u64 {
+pub fn write(table: &Table, out: &mut [u8]) -> u64 {
     let mut text = String::with_capacity(TABLE_TEXT_MOST);
     spell(table, &mut text).expect("memory takes every byte");
     give(text.as_bytes(), out)

@@ -12,7 +12,7 @@ use Rattle.accesses.specs.declared.Blockers.{Blockers}
 use Rattle.accesses.specs.Accesses.{mayBlock, blocking, orElse, emptyAccess, Listed}
 
 -- one more at the end
-blocking-snoc : (i : ℕ) (xs : List Access) (a : Access) → blocking i (xs ++ (a ∷ [])) ≡ blocking i xs ++ cond (mayBlock i a) (a ∷ []) []
+pub blocking-snoc : (i : ℕ) (xs : List Access) (a : Access) → blocking i (xs ++ (a ∷ [])) ≡ blocking i xs ++ cond (mayBlock i a) (a ∷ []) []
 unfolding blocking
 blocking-snoc i [] a = refl
 blocking-snoc i (x ∷ xs) a = go (mayBlock i x) (blocking i xs) (blocking-snoc i xs a)

@@ -1,10 +1,11 @@
 // Accesses to shared devices, and whom they may block. specs/Accesses.antt says who that is.
 use sets::CacheSet;
+use tasks::Task;
 use units::Ticks;
 ghost use mathlib.Core.Path.{_≡_};
 ghost use Prim.Native.Nat.{_≤_};
 ghost use lib.ListN.{take};
-ghost use Rattle.accesses.specs.Accesses.{mayBlock, blocking, orElse, Listed};
+ghost use Rattle.accesses.specs.Accesses.{mayBlock, blocking, orElse, plainAccess, Listed};
 
 // An access: the positions of the task that makes it and of its ceiling, how long it lasts, and its UCB.
 pub struct Access {
@@ -20,6 +21,19 @@ impl Access {
         ensures { λ r. ⌜ r ≡ mayBlock i self ⌝ }
     {
         (i < self.task) & (self.ceiling <= i)
+    }
+}
+
+// B of a task as an access.
+pub fn plain_access(task: Task) -> Access
+    ensures { λ r. ⌜ r ≡ plainAccess task ⌝ }
+{
+    let lasts = task.blocking;
+    Access {
+        task: 0,
+        ceiling: 0,
+        lasts,
+        ucb: CacheSet::EMPTY,
     }
 }
 

@@ -6,9 +6,7 @@ use board::LIMITS;
 use board::WORKS;
 use demand::Response;
 use one_row::ROW;
-use sets::CacheSet;
 use table::Table;
-use tasks::Task;
 use units::Ticks;
 ghost use mathlib.Core.Path.{_≡_};
 ghost use Prim.Native.Nat.{_+_, _≤_};
@@ -16,7 +14,7 @@ ghost use lib.ListN.{take};
 ghost use Rattle.demand.specs.Demand.{demandOf};
 ghost use Rattle.demand.specs.Terms.{termIn, Handed};
 ghost use Rattle.demand.specs.Least.{leastOf, toldOf};
-ghost use Rattle.accesses.specs.Accesses.{plainAccess, Listed};
+ghost use Rattle.accesses.specs.Accesses.{Listed};
 ghost use Rattle.board.specs.Board.{limitOn, Lent};
 ghost use Rattle.one_row.specs.Row.{Charged};
 ghost use Rattle.analysis.specs.Analysis.{blockersOf, leastOnUnder, latestOn, withCombined, responseOf, Blocks, AllBlock, Answerable};
@@ -82,26 +80,18 @@ fn respond_on(board: &[u64], method: u64, i: usize, blockers: Blockers) -> Respo
     demand::combined(third, fourth)
 }
 
-// B of a task as an access.
-fn plain_access(task: Task) -> Access
-    ensures { λ r. ⌜ r ≡ plainAccess task ⌝ }
-{
-    let lasts = task.blocking;
-    Access {
-        task: 0,
-        ceiling: 0,
-        lasts,
-        ucb: CacheSet::EMPTY,
-    }
-}
-
 // What may block the task at i: the accesses that may, and where none may its B.
 pub fn blockers_at(table: Table, i: usize) -> Blockers
     requires { ⌜ Answerable 5 table 0 i ⌝ }
     ensures { λ r. ⌜ Listed (blockersOf table i) r ⌝ }
 {
     let task = table.tasks[i];
-    accesses::blockers_of(table.accesses, table.access_count, i, plain_access(task))
+    accesses::blockers_of(
+        table.accesses,
+        table.access_count,
+        i,
+        accesses::plain_access(task),
+    )
 }
 
 // The response of the task at i under one of the methods 0 to 5.

@@ -42,7 +42,7 @@ same-hit a b e = ap hitIn e
 
 -- the counts of such a row are those of its charges, and few
 module _ (board : List ℕ) (a : Access) (m i : ℕ) {row : List ℕ} (p : ChargedUnder board a m i 0 row) where
-  count-is : (j : ℕ) → j < i → getD row j 0 ≡ reloadsIn (chargeOnUnder board a m i j)
+  pub count-is : (j : ℕ) → j < i → getD row j 0 ≡ reloadsIn (chargeOnUnder board a m i j)
   count-is j l = sym (reloads-in row m j) ∙ ap reloadsIn (p .each j zero-le l)
 
   pub row-few : FewReloads i row

@@ -27,7 +27,7 @@ use Rattle.crpd.specs.Codes.{SmallRefusal, writtenCode, SmallWritten, Te
 use Rattle.crpd.proofs.Steps.{task-ruling-by, answer-by-ruling}
 
 -- a number up to 25 that tells no line
-small : (n : ℕ) → n ≤ 25 → SmallRefusal (refusal n)
+pub small : (n : ℕ) → n ≤ 25 → SmallRefusal (refusal n)
 small n h = record { number = h; line = omega arith }
 
 told-small : (r : Refusal) → Told 16385 r → SmallRefusal r

@@ -6,7 +6,7 @@ use mathlib.Core.Bool.{Bool, true, false, cond}
 use mathlib.Core.List.{List}
 use lib.Dec.{leb, ltb}
 use lib.ListN.{length}
-use borrow.Author.Tests.{leb-false, ltb-false}
+use borrow.Author.Tests.{le-leb, lt-leb, leb-false, ltb-false}
 use native.Mathlib.Omega.{arith}
 use Rattle.table.specs.declared.Refusal.{Refusal}
 use Rattle.table.specs.declared.Outcome.{Outcome}
@@ -26,7 +26,7 @@ use Rattle.delivery.specs.Error.{errorText}
 use Rattle.delivery.proofs.Deliveries.{fitting}
 use Rattle.crpd.specs.declared.Reply.{Reply}
 use Rattle.crpd.specs.declared.Reply.the-variants.{Refused}
-use Rattle.crpd.specs.Operations.{replyOf, unlessRefused, answerTo, TextWritten, reportIn, TextReported, taskRuling, taskRulingOf, TextExplained, printedOf, printed}
+use Rattle.crpd.specs.Operations.{replyOf, unlessRefused, answerTo, TextWritten, reportIn, TextReported, taskRuling, taskRulingOf, methodRuling, TextExplained, printedOf, printed}
 
 -- ---- a text that is written
 
@@ -48,6 +48,28 @@ pub record Allowed (m i : ℕ) (read : Ruling) (count : ℕ) : Type 0 where
   pub method : m ≤ 5
   pub accepted : read ≡ ruling.Accepted
   pub held : i < count
+
+-- the method and the text are ruled on first, and then the position
+module _ (m i : ℕ) (read : Ruling) (count : ℕ) where
+  abbrev position : Ruling
+  position = cond (leb count i) (ruling.Refused (refusal 13)) ruling.Accepted
+
+  task-by-method : unlessRefused ruling.Refused (methodRuling m read) position ≡ taskRuling m i read count
+  task-by-method = go (ltb 5 m)
+    where
+      go : (t : Bool) → unlessRefused ruling.Refused (cond t (ruling.Refused (refusal 12)) read) position
+          ≡ cond t (ruling.Refused (refusal 12)) (unlessRefused ruling.Refused read position)
+      go true = refl
+      go false = refl
+
+  pub task-ruled : (v w : Ruling) → v ≡ methodRuling m read → v ≡ w → unlessRefused ruling.Refused w position ≡ taskRuling m i read count
+  task-ruled v w ruled e = rw (← e, ruled) task-by-method
+
+  pub past-ruled : (v : Ruling) → v ≡ methodRuling m read → v ≡ ruling.Accepted → count ≤ i → ruling.Refused (refusal 13) ≡ taskRuling m i read count
+  past-ruled v ruled e h = let p : ruling.Refused (refusal 13) ≡ position = rw (le-leb count i h) refl in p ∙ task-ruled v ruling.Accepted ruled e
+
+  pub held-ruled : (v : Ruling) → v ≡ methodRuling m read → v ≡ ruling.Accepted → i < count → ruling.Accepted ≡ taskRuling m i read count
+  held-ruled v ruled e h = let p : ruling.Accepted ≡ position = rw (lt-leb count i h) refl in p ∙ task-ruled v ruling.Accepted ruled e
 
 -- what holds of each ruling where it is given
 module _ (P : Ruling → Type 0) (m i : ℕ) (read : Ruling) (count : ℕ) (method-refused : P (ruling.Refused (refusal 12)))

@@ -57,7 +57,7 @@ one-ruling table whole v m = go (isReadable table) refl
 -- ---- a text
 
 -- an outcome that accepts is the acceptance of its table
-accepted-is : (o : Outcome) → o .ruling ≡ ruling.Accepted → o ≡ accepted (o .table)
+pub accepted-is : (o : Outcome) → o .ruling ≡ ruling.Accepted → o ≡ accepted (o .table)
 accepted-is o e = λ i. record { ruling = e i; table = o .table }
 
 pub outcome-readable : (text : List ℕ) (o : Outcome) → o ≡ readText text → o .ruling ≡ ruling.Accepted → Readable (o .table)

@@ -1,5 +1,5 @@
--- The numbers by which the exported functions answer. A number below 2 ^ 32 is a response in ticks, 0 where there is none, or a length in
--- bytes; any other is a refusal, its number and its line.
+-- The numbers by which the exported functions answer. A number below 2 ^ 32 is a response in ticks, 0 where there is none, a growth in thousandths, or a
+-- length in bytes; any other is a refusal, its number and its line.
 -- Assumes nothing.
 use Prim.Native.Nat.{ℕ, _+_, _*_, _≤_}
 use mathlib.Core.Path.{_≡_}
@@ -14,8 +14,10 @@ use Rattle.delivery.specs.declared.Written.the-variants as written
 use Rattle.delivery.specs.Delivery.{writtenOf, bufferOf}
 use Rattle.crpd.specs.declared.Reply.{Reply}
 use Rattle.explanation.specs.Explanation.{explanationOf}
-use Rattle.crpd.specs.Operations.{ruledAnswer, ruledBuffer, reportIn, taskRulingOf, writeRuling}
+use Rattle.crpd.specs.Operations.{ruledAnswer, ruledBuffer, reportIn, taskRulingOf, writeRuling, methodRulingOf, scaledText}
 use Rattle.crpd.specs.declared.Reply.the-variants.{Within, Unschedulable, Refused}
+use Rattle.crpd.specs.declared.Factor.{Factor}
+use Rattle.crpd.specs.declared.Factor.the-variants as factor
 
 -- the refusals that there are: up to number 25, and lines of a text of at most 16,384 bytes
 pub record SmallRefusal (r : Refusal) : Type 0 where
@@ -30,6 +32,10 @@ abbrev pub answerCode : Reply → ℕ
 answerCode (Within R) = R .0
 answerCode Unschedulable = 0
 answerCode (Refused r) = refusalCode r
+
+abbrev pub factorCode : Factor → ℕ
+factorCode (factor.Thousandths k) = k
+factorCode (factor.Refused r) = refusalCode r
 
 abbrev pub writtenCode : Written → ℕ
 writtenCode (written.Length n) = n
@@ -55,6 +61,10 @@ ExplanationCoded text m i = TextCoded (taskRulingOf text m i) (explanationOf (re
 -- that of a text that is read and written again
 abbrev pub RewriteCoded : List ℕ → List ℕ → ℕ → List ℕ → Type 0
 RewriteCoded text = TextCoded (readText text .ruling) text
+
+-- that of a table that is scaled and written
+abbrev pub ScaledCoded : List ℕ → ℕ → List ℕ → ℕ → List ℕ → Type 0
+ScaledCoded text m = TextCoded (methodRulingOf text m) (scaledText text m)
 
 -- that of a table that is written
 abbrev pub TableCoded : Table → List ℕ → ℕ → List ℕ → Type 0

@@ -1,6 +1,6 @@
 -- What the public operations answer, for every text, method number, position and buffer.
 -- Assumes nothing.
-use Prim.Native.Nat.{ℕ, _≤_}
+use Prim.Native.Nat.{ℕ, zero, suc, _≤_}
 use mathlib.Core.Path.{_≡_}
 use mathlib.Core.Bool.{cond}
 use mathlib.Core.List.{List}
@@ -21,10 +21,15 @@ use Rattle.table_text.specs.TableText.{tableText}
 use Rattle.readable.specs.Readable.{Readable}
 use Rattle.readable.specs.Tests.{isReadable}
 use Rattle.explanation.specs.Explanation.{explanationOf}
+use Rattle.scaling.specs.Scaling.{scaledBy}
+use Rattle.growth.specs.Growth.{growthOf}
 use Rattle.delivery.specs.Delivery.{writtenOf, bufferOf}
 use Rattle.delivery.specs.Error.{errorText}
 use Rattle.crpd.specs.declared.Reply.{Reply}
 use Rattle.crpd.specs.declared.Reply.the-variants.{Within, Unschedulable, Refused}
+use Rattle.crpd.specs.declared.Factor.{Factor}
+use Rattle.crpd.specs.declared.Factor.the-variants as factor
+use Rattle.crpd.specs.declared.Factor.the-variants.{Thousandths}
 
 -- ---- one answer
 
@@ -111,6 +116,31 @@ pub record TableWritten (table : Table) (before : List ℕ) (answer : Written) (
 -- the text's refusals, and then 14; of an accepted text the same bytes, never more than 9,293
 abbrev pub TextRewritten : List ℕ → List ℕ → Written → List ℕ → Type 0
 TextRewritten text = TextWritten (readText text .ruling) 9293 text
+
+-- ---- how much growth is left
+
+-- 12 where there is no such method, then the refusal of the text that was read
+abbrev pub methodRuling : ℕ → Ruling → Ruling
+methodRuling m read = cond (ltb 5 m) (ruling.Refused (refusal 12)) read
+
+unfoldable pub methodRulingOf : List ℕ → ℕ → Ruling
+methodRulingOf text m = methodRuling m (readText text .ruling)
+
+-- these refusals, or the greatest k up to 4,000 by which the table passes
+unfoldable pub growthTo : List ℕ → ℕ → Factor
+growthTo text m = unlessRefused factor.Refused (methodRulingOf text m) (Thousandths (growthOf m (readText text .table)))
+
+-- the text of the table scaled by k; where that is 0, the text itself
+abbrev pub textScaledBy : ℕ → List ℕ → List ℕ
+textScaledBy zero text = text
+textScaledBy (suc k) text = tableText (scaledBy (suc k) (readText text .table))
+
+unfoldable pub scaledText : List ℕ → ℕ → List ℕ
+scaledText text m = textScaledBy (growthOf m (readText text .table)) text
+
+-- the same refusals, and then 14; never longer than 9,293 bytes
+abbrev pub TextScaled : List ℕ → ℕ → List ℕ → Written → List ℕ → Type 0
+TextScaled text m = TextWritten (methodRulingOf text m) 9293 (scaledText text m)
 
 -- ---- what the program prints: the report, or the line of the refusal
 

@@ -1,16 +1,19 @@
 // The operations for programs in other languages: byte slices and numbers in, one number out. specs/Codes.antt says what the number means.
+use crate::Factor;
 use crate::Reply;
 use crate::answer;
 use crate::explain;
+use crate::growth;
 use crate::print;
 use crate::report;
 use crate::rewrite;
+use crate::scaled;
 use delivery::Written;
 use delivery::deliver;
 use table::Refusal;
 ghost use mathlib.Core.Path.{_≡_};
-ghost use Rattle.crpd.specs.Operations.{answerTo, printed};
-ghost use Rattle.crpd.specs.Codes.{SmallRefusal, refusalCode, SmallWritten, writtenCode, answerCode, ReportCoded, ExplanationCoded, RewriteCoded, DeliveryCoded};
+ghost use Rattle.crpd.specs.Operations.{answerTo, growthTo, printed};
+ghost use Rattle.crpd.specs.Codes.{SmallRefusal, refusalCode, SmallWritten, writtenCode, answerCode, factorCode, ReportCoded, ExplanationCoded, RewriteCoded, ScaledCoded, DeliveryCoded};
 
 fn refusal_code(refusal: Refusal) -> u64
     requires { ⌜ SmallRefusal refusal ⌝ }
@@ -63,6 +66,25 @@ pub extern "C" fn crpd_rewrite(text: &[u8], out: &mut [u8]) -> u64
     ensures { λ r. ⌜ RewriteCoded (now (text .entry)) (now (out .entry)) r (now (out .exit)) ⌝ }
 {
     written_code(rewrite(text, out))
+}
+
+// How much growth is left under a method, in thousandths; 0 where there is none.
+#[no_mangle]
+pub extern "C" fn crpd_growth(text: &[u8], method: u64) -> u64
+    ensures { λ r. ⌜ r ≡ factorCode (growthTo (now (text .entry)) method) ⌝ }
+{
+    match growth(text, method) {
+        Factor::Thousandths(k) => k,
+        Factor::Refused(refusal) => refusal_code(refusal),
+    }
+}
+
+// The length of the table with that growth, which then stands at the start of the buffer.
+#[no_mangle]
+pub extern "C" fn crpd_scaled(text: &[u8], method: u64, out: &mut [u8]) -> u64
+    ensures { λ r. ⌜ ScaledCoded (now (text .entry)) method (now (out .entry)) r (now (out .exit)) ⌝ }
+{
+    written_code(scaled(text, method, out))
 }
 
 // The length of what the program prints, which then stands at the start of the buffer.

@@ -1,4 +1,5 @@
-// The public operations: of a table text one answer, its explanation, the report, what the program prints, and the text again; of a table its text.
+// The public operations: of a table text one answer, its explanation, the report, what the program prints, the text again, how much growth is left, and the
+// text with that growth; of a table its text.
 // They take every text, table, number and buffer, and ask nothing of their caller.
 pub mod exported;
 
@@ -13,12 +14,18 @@ ghost use Rattle.table.specs.Accepted.{AcceptedTable};
 ghost use Rattle.writer.specs.Wrote.{Wrote};
 ghost use Rattle.analysis.specs.Analysis.{responseOf};
 ghost use Rattle.report.specs.Reported.{Reported};
-ghost use Rattle.crpd.specs.Operations.{replyOf, taskRuling, answerTo, TextReported, TextExplained, TableWritten, TextRewritten, printed};
+ghost use Rattle.crpd.specs.Operations.{replyOf, taskRuling, answerTo, TextReported, TextExplained, TableWritten, TextRewritten, methodRuling, growthTo, TextScaled, printed};
 
 // What is answered of a task under a method.
 pub enum Reply {
     Within(Ticks),
     Unschedulable,
+    Refused(Refusal),
+}
+
+// How far execution times may grow under a method.
+pub enum Factor {
+    Thousandths(u64),
     Refused(Refusal),
 }
 
@@ -31,9 +38,9 @@ fn reply_of(response: Response) -> Reply
     }
 }
 
-// The ruling where the task at a position is asked for under a method, of a text that was read and has so many tasks.
-fn task_ruling(method: u64, position: u64, read: Ruling, count: usize) -> Ruling
-    ensures { λ r. ⌜ r ≡ taskRuling method position read count ⌝ }
+// The ruling where a text that was read is asked for under a method.
+fn method_ruling(method: u64, read: Ruling) -> Ruling
+    ensures { λ r. ⌜ r ≡ methodRuling method read ⌝ }
 {
     if 5 < method {
         return Ruling::Refused(Refusal {
@@ -41,7 +48,15 @@ fn task_ruling(method: u64, position: u64, read: Ruling, count: usize) -> Ruling
             line: 0,
         });
     }
-    if let Ruling::Refused(refusal) = read {
+    read
+}
+
+// The ruling where the task at a position is asked for under a method, of a text that was read and has so many tasks.
+fn task_ruling(method: u64, position: u64, read: Ruling, count: usize) -> Ruling
+    ensures { λ r. ⌜ r ≡ taskRuling method position read count ⌝ }
+{
+    let ruling = method_ruling(method, read);
+    if let Ruling::Refused(refusal) = ruling {
         return Ruling::Refused(refusal);
     }
     if count as u64 <= position {
@@ -125,6 +140,38 @@ pub fn rewrite(text: &[u8], out: &mut [u8]) -> Written
     }
     let table = outcome.table;
     table_text::write(table, out)
+}
+
+// How much growth is left under a method.
+pub fn growth(text: &[u8], method: u64) -> Factor
+    ensures { λ r. ⌜ r ≡ growthTo (now (text .entry)) method ⌝ }
+{
+    let outcome = table::read(text);
+    let read = outcome.ruling;
+    let ruling = method_ruling(method, read);
+    if let Ruling::Refused(refusal) = ruling {
+        return Factor::Refused(refusal);
+    }
+    let table = outcome.table;
+    Factor::Thousandths(growth::growth(table, method))
+}
+
+// The table with that growth, at the start of the buffer, or a refusal that leaves the buffer as it was. Where none is left, the table as it is.
+pub fn scaled(text: &[u8], method: u64, out: &mut [u8]) -> Written
+    ensures { λ r. ⌜ TextScaled (now (text .entry)) method (now (out .entry)) r (now (out .exit)) ⌝ }
+{
+    let outcome = table::read(text);
+    let read = outcome.ruling;
+    let ruling = method_ruling(method, read);
+    if let Ruling::Refused(refusal) = ruling {
+        return Written::Refused(refusal);
+    }
+    let table = outcome.table;
+    let k = growth::growth(table, method);
+    if k == 0 {
+        return table_text::write(table, out);
+    }
+    table_text::write(scaling::scaled(table, k), out)
 }
 
 // What the program prints, at the start of the buffer: the report, or the line of the text's refusal. The longest fits.

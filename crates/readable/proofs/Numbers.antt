@@ -30,7 +30,7 @@ digit-more (c ∷ s) b a v d e = go (isDigit c) (λ h. digit-more s b (a * 10 + 
 digit-is : (d : ℕ) → d < 10 → isDigit (digitByte d) ≡ true
 digit-is d h = rw (le-leb 48 (48 + d) (omega arith), le-leb (48 + d) 57 (omega arith))
 
-digits-read : (n : ℕ) → readDigits 0 (spelled n) ≡ Value n
+pub digits-read : (n : ℕ) → readDigits 0 (spelled n) ≡ Value n
 unfolding readDigits
 digits-read =
     by-digits (λ n. readDigits 0 (spelled n) ≡ Value n)

@@ -69,7 +69,7 @@ module _ (held count sets n : ℕ) (a : Access) where
   unfolding isAllowed
   unused-allowed h = rw (le-ltb n held h)
 
-map-snoc : {X Y : Type 0} (f : X → Y) (l : List X) (x : X) → map f (l ++ (x ∷ [])) ≡ map f l ++ (f x ∷ [])
+pub map-snoc : {X Y : Type 0} (f : X → Y) (l : List X) (x : X) → map f (l ++ (x ∷ [])) ≡ map f l ++ (f x ∷ [])
 map-snoc f [] x = refl
 map-snoc {Y} f (y ∷ l) x = ap (λ (t : List Y). f y ∷ t) (map-snoc f l x)
 

@@ -38,7 +38,7 @@ use Rattle.readable.proofs.AccessLines.{access-text, access-kept, empty
 use Rattle.readable.proofs.Vacant.{empty-vacant}
 
 -- what comes to be accepted met no fault
-unless-accepted : (f : Finding) (line : ℕ) (next : Outcome) (table : Table) → unlessFault f line next ≡ accepted table → (f ≡ Fine) × (next ≡ accepted table)
+pub unless-accepted : (f : Finding) (line : ℕ) (next : Outcome) (table : Table) → unlessFault f line next ≡ accepted table → (f ≡ Fine) × (next ≡ accepted table)
 unless-accepted Fine line next table e = (refl, e)
 unless-accepted (Fault number) line next table e =
     let ruled = ap (λ (o : Outcome). o .ruling) e in
@@ -58,7 +58,7 @@ pub record Grown (table : Table) : Type 0 where
   pub unused : (n : ℕ) → table .«access_count» ≤ n → n < 32 → getD (table .accesses) n emptyAccess ≡ emptyAccess
 
 -- the table of line 1
-grown-head : (l : List ℕ) → headFault (headSaid l) ≡ Fine → Grown (headTable (headSaid l))
+pub grown-head : (l : List ℕ) → headFault (headSaid l) ≡ Fine → Grown (headTable (headSaid l))
 grown-head l e = record {
   long = length-replicate 32 emptyTask;
   head = rw (head-kept l (head-holds _ e)) e;
@@ -191,13 +191,13 @@ grown-line table l _ g (adds-access e) = record { grown = grown-access table l g
 
 -- ---- the reading, on from a table through these lines
 
-record ReadOn (table : Table) (ls : List (List ℕ)) (result : Table) : Type 0 where
-  grown : Grown result
-  some : 1 ≤ result .count
-  unblocked : blockedFault (result .«access_count») (tasksOf result) ≡ Fine
-  text : tableText result ≡ tableText table ++ ended ls
+pub record ReadOn (table : Table) (ls : List (List ℕ)) (result : Table) : Type 0 where
+  pub grown : Grown result
+  pub some : 1 ≤ result .count
+  pub unblocked : blockedFault (result .«access_count») (tasksOf result) ≡ Fine
+  pub text : tableText result ≡ tableText table ++ ended ls
 
-read-on : (line : ℕ) (table : Table) (ls : List (List ℕ)) (result : Table) → Grown table → readFrom line table ls ≡ accepted result → ReadOn table ls result
+pub read-on : (line : ℕ) (table : Table) (ls : List (List ℕ)) (result : Table) → Grown table → readFrom line table ls ≡ accepted result → ReadOn table ls result
 unfolding readFrom endFault flatMap
 read-on line table [] result g e =
     let p = unless-accepted _ 1 _ result e in
@@ -219,7 +219,7 @@ read-on line table (l ∷ ls) result g e =
 -- ---- a whole text
 
 -- the tests that a table with a task passes, once it is read
-grown-readable : (table : Table) → Grown table → 1 ≤ table .count → blockedFault (table .«access_count») (tasksOf table) ≡ Fine → isReadable table ≡ true
+pub grown-readable : (table : Table) → Grown table → 1 ≤ table .count → blockedFault (table .«access_count») (tasksOf table) ≡ Fine → isReadable table ≡ true
 unfolding isReadable
 grown-readable table g some u =
     rw (g .head, le-leb 1 (table .count) some, le-leb (table .count) 32 (g .few), le-leb (table .«access_count») 32 (g .few-accesses), every-is 32 (isPlaced table) placed, every-is 32 (isEntered table) entered, u)

@@ -54,13 +54,13 @@ fine-is (Fault number) e = absurd (false≢true e)
 abbrev accessBytesIn : ℕ → List Task → Access → List ℕ
 accessBytesIn sets ts a = accessBytes sets (getD ts (a .task) blank .name) (getD ts (a .ceiling) blank .name) a
 
-abbrev taskLines : Table → List (List ℕ)
+abbrev pub taskLines : Table → List (List ℕ)
 taskLines table = map (taskBytes (table .sets)) (tasksOf table)
 
-abbrev accessLines : Table → List (List ℕ)
+abbrev pub accessLines : Table → List (List ℕ)
 accessLines table = map (accessBytesIn (table .sets) (tasksOf table)) (accessesOf table)
 
-abbrev linesOf : Table → List (List ℕ)
+abbrev pub linesOf : Table → List (List ℕ)
 linesOf table = headBytes table ∷ taskLines table ++ accessLines table
 
 ended-append : (ls ms : List (List ℕ)) → ended (ls ++ ms) ≡ ended ls ++ ended ms
@@ -68,7 +68,7 @@ unfolding flatMap
 ended-append [] ms = refl
 ended-append (l ∷ ls) ms = ap (λ (s : List ℕ). l ++ (10 ∷ []) ++ s) (ended-append ls ms) ∙ sym (append-assoc (l ++ (10 ∷ [])) (ended ls) (ended ms))
 
-text-lines : (table : Table) → ended (linesOf table) ≡ tableText table
+pub text-lines : (table : Table) → ended (linesOf table) ≡ tableText table
 unfolding tableText headText taskText accessText flatMap
 text-lines table =
     let tasks = flatMap-map (λ l. l ++ (10 ∷ [])) (taskBytes (table .sets)) (tasksOf table) in
@@ -76,7 +76,7 @@ text-lines table =
     ap (λ (s : List ℕ). headText (table .sets) (table .brt .0) ++ s) (ended-append (taskLines table) (accessLines table) ∙ ap₂ (λ (s t : List ℕ). s ++ t) tasks accesses)
     ∙ sym (append-assoc (headText (table .sets) (table .brt .0)) _ _)
 
-none-ends-append : (ls ms : List (List ℕ)) → NoneEnds ls → NoneEnds ms → NoneEnds (ls ++ ms)
+pub none-ends-append : (ls ms : List (List ℕ)) → NoneEnds ls → NoneEnds ms → NoneEnds (ls ++ ms)
 none-ends-append [] ms p q = q
 none-ends-append (l ∷ ls) ms p q = (p .0, none-ends-append ls ms (p .1) q)
 
@@ -342,7 +342,7 @@ module _ (table : Table) (whole : Whole table) (passes : isReadable table ≡ tr
       let h : k < table .count = omega arith in
       rw (next-task k h) (joined-plain (84 ∷ []) (taskFields (table .sets) (task k)) (line-plain k h), tasks-end m (k + 1) (omega arith))
 
-  accesses-end : (m n : ℕ) → n + m ≡ table .«access_count» → NoneEnds (map (accessBytesIn (table .sets) (tasksOf table)) (drop n (accessesOf table)))
+  pub accesses-end : (m n : ℕ) → n + m ≡ table .«access_count» → NoneEnds (map (accessBytesIn (table .sets) (tasksOf table)) (drop n (accessesOf table)))
   accesses-end zero n e = rw (no-access n (omega arith)) tt
   accesses-end (suc m) n e =
       let h : n < table .«access_count» = omega arith in
