@@ -40,8 +40,8 @@ uint64_t crpd_explain(const uint8_t *text, size_t text_len, uint64_t method, uin
 uint64_t crpd_rewrite(const uint8_t *text, size_t text_len, uint8_t *out, size_t out_len);
 
 /* How much growth of execution times is left under a method (0 to 5), in thousandths: the greatest k from 1 to 4000
- * with which the table still passes, each C replaced by C * k / 1000, rounded up. 0 where none passes; 1000 is the
- * table as it is, and with 4000 it may well be more. */
+ * with which the table passes, each C replaced by C * k / 1000, rounded up: its text is accepted, and its verdict is
+ * yes. 0 where none passes; 1000 is the table as it is, and at 4000 a larger one might pass, too. */
 uint64_t crpd_growth(const uint8_t *text, size_t text_len, uint64_t method);
 
 /* The length of the text of the table with that growth, which then stands at the start of out; where the growth is 0,

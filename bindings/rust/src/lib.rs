@@ -84,8 +84,9 @@ pub fn rewrite(text: &[u8], out: &mut [u8]) -> Result<usize, Refusal> {
 }
 
 /// How much growth of execution times is left under a method (0 to 5), in thousandths: the greatest k from
-/// 1 to 4000 with which the table still passes, each C replaced by C * k / 1000, rounded up. 0 where none
-/// passes; 1000 is the table as it is, and with 4000 it may well be more.
+/// 1 to 4000 with which the table passes, each C replaced by C * k / 1000, rounded up: its text is accepted,
+/// and its verdict is yes. 0 where none passes; 1000 is the table as it is, and at 4000 a larger one might
+/// pass, too.
 pub fn growth(text: &[u8], method: u64) -> Result<u32, Refusal> {
     told(unsafe { crpd_growth(text.as_ptr(), text.len(), method) })
 }

@@ -29,7 +29,7 @@ impl Comparison {
         let texts: Vec<&Vec<u8>> = own
             .iter()
             .chain(common)
-            .chain(spread(refused, 400))
+            .chain(spread(refused, share(400)))
             .collect();
         for text in texts {
             let outcome = Outcome::of(text, self.options.error);
@@ -49,8 +49,10 @@ impl Comparison {
     /// For more texts what can be seen without looking at every k.
     pub fn growth_ends(&mut self, valid: &ValidTexts, refused: &[Vec<u8>]) {
         let mut group = Group::new("growths that pass while the next k fails, and their tables");
-        let texts = spread(&valid.common, 4_000).chain(spread(&valid.extreme, 600));
-        for text in texts.chain(&valid.worst).chain(spread(refused, 800)) {
+        let share = |texts| self.options.share(texts) as usize;
+        let texts = spread(&valid.common, share(4_000)).chain(spread(&valid.extreme, share(600)));
+        let refused = spread(refused, share(800));
+        for text in texts.chain(&valid.worst).chain(refused) {
             self.compare(&mut group, growths::ends, text);
         }
         self.close(group);

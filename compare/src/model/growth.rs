@@ -2,7 +2,8 @@
 //!
 //! For each k the table's text is spelled with the scaled execution times, read again as any other
 //! text, and asked for the verdict. The growth is the greatest k that passes. That is found by looking
-//! at all of them: nothing is taken to be known of one k from another.
+//! at all of them: nothing is taken to be known of one k from another, but the reload counts, which do
+//! not depend on execution times, and the verdict on a text that is the same byte for byte.
 
 use super::blocking::blockers;
 use super::costs::{Reloads, METHODS};

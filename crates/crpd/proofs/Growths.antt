@@ -18,6 +18,7 @@ use Rattle.delivery.specs.declared.Written.the-variants as written
 use Rattle.table_text.specs.TableText.{tableText}
 use Rattle.table_text.specs.Delivered.{TableDelivered}
 use Rattle.readable.specs.Readable.{Readable}
+use Rattle.readable.proofs.Reading.{accepted-is}
 use Rattle.readable.proofs.RoundTrip.{read-then-written}
 use Rattle.scaling.specs.Scaling.{scaledBy, Scalable}
 use Rattle.scaling.proofs.ScaledTexts.{readable-scalable, scaled-reads, scaled-accepted}
@@ -29,7 +30,7 @@ use Rattle.crpd.specs.Operations.{unlessRefused, methodRuling, methodRul
 use Rattle.crpd.specs.Codes.{SmallRefusal}
 use Rattle.crpd.proofs.Steps.{text-refused, text-accepted}
 use Rattle.crpd.proofs.Small.{SmallRuling, read-small, small}
-use Rattle.crpd.proofs.Tables.{accepted-is, outcome-readable}
+use Rattle.crpd.proofs.Tables.{outcome-readable}
 
 -- ---- the ruling
 
@@ -38,7 +39,7 @@ pub record Asked (m : ℕ) (read : Ruling) : Type 0 where
   pub method : m ≤ 5
   pub accepted : read ≡ ruling.Accepted
 
-pub method-ruling-accepted : (m : ℕ) (read : Ruling) → methodRuling m read ≡ ruling.Accepted → Asked m read
+method-ruling-accepted : (m : ℕ) (read : Ruling) → methodRuling m read ≡ ruling.Accepted → Asked m read
 method-ruling-accepted m read e = go (ltb 5 m) refl e
   where
     go : (t : Bool) → ltb 5 m ≡ t → cond t (ruling.Refused (refusal 12)) read ≡ ruling.Accepted → Asked m read
@@ -73,7 +74,7 @@ module _ (table : Table) (readable : Readable table) (m : ℕ) where
   grown-fits : (k : ℕ) → growthOf m table ≡ suc k → passes m table (suc k) ≡ true
   grown-fits k e = growth-means table readable m .pass (suc k) (omega arith) (omega (arith, e))
 
-  pub grown-reads : (k : ℕ) → growthOf m table ≡ suc k → readText (tableText (scaledBy (suc k) table)) ≡ accepted (scaledBy (suc k) table)
+  grown-reads : (k : ℕ) → growthOf m table ≡ suc k → readText (tableText (scaledBy (suc k) table)) ≡ accepted (scaledBy (suc k) table)
   grown-reads k e = scaled-reads table readable (suc k) (omega arith) (passes-fits table readable m (suc k) (omega arith) (grown-fits k e))
 
   pub grown-accepted : (k : ℕ) → k ≡ growthOf m table → (k ≡ 0 → ⊥) → AcceptedTable (scaledBy k table)
@@ -97,7 +98,7 @@ module _ (text : List ℕ) (table : Table) (e : readText text ≡ accepted table
           ∙ ap (λ (o : Outcome). readText (tableText (scaledBy (suc k) (o .table)))) e
           ∙ grown-reads table (text, e) m k g
 
--- what a growth that is told means: every k from 1 up to it passes, and every larger one up to 4,000 fails
+-- what a growth that is told means: of the k up to 4,000 just those from 1 up to it pass
 pub told-means : (text : List ℕ) (m k : ℕ) → growthTo text m ≡ factor.Thousandths k → Bounds (passes m (readText text .table)) 4000 k
 unfolding growthTo methodRulingOf
 told-means text m k e = go (methodRulingOf text m) refl e

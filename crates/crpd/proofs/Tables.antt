@@ -19,6 +19,7 @@ use Rattle.table_text.specs.TableText.{tableText}
 use Rattle.table_text.specs.Delivered.{TableDelivered}
 use Rattle.readable.specs.Readable.{Whole, Readable}
 use Rattle.readable.specs.Tests.{isReadable}
+use Rattle.readable.proofs.Reading.{accepted-is}
 use Rattle.readable.proofs.RoundTrip.{read-then-written, reads-back, tests-are-meant}
 use Rattle.crpd.specs.Operations.{ruledAnswer, ruledBuffer, writeRuling, MeantRuling, TableWritten, TextRewritten}
 use Rattle.crpd.proofs.Steps.{text-refused, text-accepted, ruling-is}
@@ -55,10 +56,6 @@ one-ruling table whole v m = go (isReadable table) refl
     go false e = m .refused (λ r. false≢true (rw e at (tests-are-meant table whole .1 r)))
 
 -- ---- a text
-
--- an outcome that accepts is the acceptance of its table
-pub accepted-is : (o : Outcome) → o .ruling ≡ ruling.Accepted → o ≡ accepted (o .table)
-accepted-is o e = λ i. record { ruling = e i; table = o .table }
 
 pub outcome-readable : (text : List ℕ) (o : Outcome) → o ≡ readText text → o .ruling ≡ ruling.Accepted → Readable (o .table)
 outcome-readable text o read e = (text, sym read ∙ accepted-is o e)

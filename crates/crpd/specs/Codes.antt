@@ -33,6 +33,7 @@ answerCode (Within R) = R .0
 answerCode Unschedulable = 0
 answerCode (Refused r) = refusalCode r
 
+-- a growth is its thousandths
 abbrev pub factorCode : Factor → ℕ
 factorCode (factor.Thousandths k) = k
 factorCode (factor.Refused r) = refusalCode r

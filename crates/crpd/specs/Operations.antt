@@ -29,7 +29,6 @@ use Rattle.crpd.specs.declared.Reply.{Reply}
 use Rattle.crpd.specs.declared.Reply.the-variants.{Within, Unschedulable, Refused}
 use Rattle.crpd.specs.declared.Factor.{Factor}
 use Rattle.crpd.specs.declared.Factor.the-variants as factor
-use Rattle.crpd.specs.declared.Factor.the-variants.{Thousandths}
 
 -- ---- one answer
 
@@ -123,18 +122,20 @@ TextRewritten text = TextWritten (readText text .ruling) 9293 text
 abbrev pub methodRuling : ℕ → Ruling → Ruling
 methodRuling m read = cond (ltb 5 m) (ruling.Refused (refusal 12)) read
 
+-- the ruling on a text that is asked for under method m
 unfoldable pub methodRulingOf : List ℕ → ℕ → Ruling
 methodRulingOf text m = methodRuling m (readText text .ruling)
 
 -- these refusals, or the greatest k up to 4,000 by which the table passes
 unfoldable pub growthTo : List ℕ → ℕ → Factor
-growthTo text m = unlessRefused factor.Refused (methodRulingOf text m) (Thousandths (growthOf m (readText text .table)))
+growthTo text m = unlessRefused factor.Refused (methodRulingOf text m) (factor.Thousandths (growthOf m (readText text .table)))
 
 -- the text of the table scaled by k; where that is 0, the text itself
 abbrev pub textScaledBy : ℕ → List ℕ → List ℕ
 textScaledBy zero text = text
 textScaledBy (suc k) text = tableText (scaledBy (suc k) (readText text .table))
 
+-- the text of the table with its growth
 unfoldable pub scaledText : List ℕ → ℕ → List ℕ
 scaledText text m = textScaledBy (growthOf m (readText text .table)) text
 

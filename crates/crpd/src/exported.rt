@@ -68,7 +68,7 @@ pub extern "C" fn crpd_rewrite(text: &[u8], out: &mut [u8]) -> u64
     written_code(rewrite(text, out))
 }
 
-// How much growth is left under a method, in thousandths; 0 where there is none.
+// How much growth is left under a method, in thousandths; 0 where no k passes.
 #[no_mangle]
 pub extern "C" fn crpd_growth(text: &[u8], method: u64) -> u64
     ensures { λ r. ⌜ r ≡ factorCode (growthTo (now (text .entry)) method) ⌝ }

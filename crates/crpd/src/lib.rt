@@ -156,7 +156,7 @@ pub fn growth(text: &[u8], method: u64) -> Factor
     Factor::Thousandths(growth::growth(table, method))
 }
 
-// The table with that growth, at the start of the buffer, or a refusal that leaves the buffer as it was. Where none is left, the table as it is.
+// The table with that growth, at the start of the buffer, or a refusal that leaves the buffer as it was. Where no k passes, the table as it is.
 pub fn scaled(text: &[u8], method: u64, out: &mut [u8]) -> Written
     ensures { λ r. ⌜ TextScaled (now (text .entry)) method (now (out .entry)) r (now (out .exit)) ⌝ }
 {

@@ -4,17 +4,19 @@ use native.Mathlib.Nat.{lt-of-not-le}
 use native.Mathlib.Decide.{decLe}
 use native.Mathlib.Omega.{arith}
 use mathlib.Core.Path.{_≡_, refl, sym, _∙_}
-use mathlib.Core.Bool.{Bool, true, false, _&&_, _||_, false≢true}
+use mathlib.Core.Bool.{Bool, true, false, _&&_, _||_, false≢true, or-true, not-eq-not}
 use Rattle.growth.specs.Growth.{greatest, Bounds}
 
 -- where a number up to n passes, every smaller one from 1 on does
 abbrev pub Descends : (ℕ → Bool) → ℕ → Type 0
 Descends p n = (k l : ℕ) → 1 ≤ k → k ≤ l → l ≤ n → p l ≡ true → p k ≡ true
 
--- what does not pass fails
-pub not-true : (b : Bool) → (b ≡ true → ⊥) → b ≡ false
-not-true true h = absurd (h refl)
-not-true false h = refl
+-- where all of them pass, the last is the bound, and of none it is 0
+pub bounds-whole : (p : ℕ → Bool) (n : ℕ) → ((k : ℕ) → 1 ≤ k → k ≤ n → p k ≡ true) → Bounds p n n
+bounds-whole p n all = record { most = omega arith; pass = all; fail = λ k l m. absurd (omega (arith, l, m)) }
+
+pub bounds-none : (p : ℕ → Bool) → Bounds p 0 0
+bounds-none p = bounds-whole p 0 (λ k l m. absurd (omega (arith, l, m)))
 
 -- ---- there is just one bound, the greatest
 
@@ -34,11 +36,11 @@ bounds-greatest p (suc n) r b = go (p (suc n)) refl (bounds-greatest p n r)
 -- and where a test falls, the greatest is one
 pub greatest-bounds : (p : ℕ → Bool) (n : ℕ) → Descends p n → Bounds p n (greatest p n)
 unfolding greatest
-greatest-bounds p zero f = record { most = omega arith; pass = λ k a b. absurd (omega (arith, a, b)); fail = λ k a b. absurd (omega (arith, a, b)) }
+greatest-bounds p zero f = bounds-none p
 greatest-bounds p (suc n) f = go (p (suc n)) refl (greatest-bounds p n (λ k l a c d. f k l a c (omega arith)))
   where
     go : (t : Bool) → p (suc n) ≡ t → Bounds p n (greatest p n) → Bounds p (suc n) (elim t [ true ↦ suc n | false ↦ greatest p n ])
-    go true e b = record { most = omega arith; pass = λ k l m. f k (suc n) l m (omega arith) e; fail = λ k l m. absurd (omega (arith, l, m)) }
+    go true e b = bounds-whole p (suc n) (λ k l m. f k (suc n) l m (omega arith) e)
     go false e b = record { most = omega (arith, b .most); pass = b .pass; fail = past }
       where
         past : (k : ℕ) → greatest p n < k → k ≤ suc n → p k ≡ false
@@ -48,10 +50,6 @@ greatest-bounds p (suc n) f = go (p (suc n)) refl (greatest-bounds p n (λ k l a
             last q = rw q e
 
 -- ---- bounds of tests that are made of others
-
--- up to 0 nothing is tried
-pub bounds-none : (p : ℕ → Bool) → Bounds p 0 0
-bounds-none p = record { most = omega arith; pass = λ k a b. absurd (omega (arith, a, b)); fail = λ k a b. absurd (omega (arith, a, b)) }
 
 -- the same test
 pub bounds-same : (p q : ℕ → Bool) (n r : ℕ) → ((k : ℕ) → 1 ≤ k → k ≤ n → p k ≡ q k) → Bounds p n r → Bounds q n r
@@ -78,10 +76,6 @@ bounds-both p q n r s b c = record {
         beyond : r < k → (p k && q k) ≡ false
         beyond h = rw (b .fail k h m)
 
-or-right : (t : Bool) → (t || true) ≡ true
-or-right true = refl
-or-right false = refl
-
 -- what passes either
 pub bounds-either : (p q : ℕ → Bool) (n r s : ℕ) → Bounds p n r → Bounds q n s → Bounds (λ k. p k || q k) n (max r s)
 bounds-either p q n r s b c = record {
@@ -97,11 +91,11 @@ bounds-either p q n r s b c = record {
         first h = rw (b .pass k l h)
 
         second : k ≤ s → (p k || q k) ≡ true
-        second h = rw (c .pass k l h) (or-right (p k))
+        second h = rw (c .pass k l h) (or-true (p k))
 
 -- where all pass the second, they pass either
 pub bounds-second : (p q : ℕ → Bool) (n : ℕ) → Bounds q n n → Bounds (λ k. p k || q k) n n
-bounds-second p q n b = record { most = omega arith; pass = λ k l m. rw (b .pass k l m) (or-right (p k)); fail = λ k l m. absurd (omega (arith, l, m)) }
+bounds-second p q n b = bounds-whole _ n (λ k l m. rw (b .pass k l m) (or-true (p k)))
 
 -- ---- bisection
 
@@ -117,9 +111,9 @@ pub spans-none : (p : ℕ → Bool) (n low high : ℕ) → Descends p n → Span
 spans-none p n low high f b h = record {
   most = omega (arith, b .under, b .most);
   pass = λ k l m. f k low l m (omega (arith, b .under, b .most)) (b .passes (omega arith));
-  fail = λ k l m. not-true (p k) (λ e. false≢true (sym (b .fails) ∙ f high k (omega (arith, b .under)) (omega arith) m e));
+  fail = λ k l m. not-eq-not .0 (λ e. false≢true (sym (b .fails) ∙ f high k (omega (arith, b .under)) (omega arith) m e));
 }
 
 -- where the last one passes, it is the bound
 pub bounds-all : (p : ℕ → Bool) (n : ℕ) → Descends p n → p n ≡ true → Bounds p n n
-bounds-all p n f e = record { most = omega arith; pass = λ k l m. f k n l m (omega arith) e; fail = λ k l m. absurd (omega (arith, l, m)) }
+bounds-all p n f e = bounds-whole p n (λ k l m. f k n l m (omega arith) e)

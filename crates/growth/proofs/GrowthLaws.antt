@@ -5,7 +5,7 @@ use native.Mathlib.Decide.{decLe}
 use native.Mathlib.Numerals.{add-one}
 use native.Mathlib.Omega.{arith}
 use mathlib.Core.Path.{_≡_, refl, sym, ap, ap₂, subst, _∙_}
-use mathlib.Core.Bool.{Bool, true, false, _&&_, and-eq-true-iff, false≢true}
+use mathlib.Core.Bool.{Bool, true, false, _&&_, and-eq-true-iff, false≢true, and-assoc, and-comm, not-eq-not}
 use mathlib.Core.List.{List, [], _∷_, map}
 use lib.ListN.{getD}
 use lib.Seq.{getD-take}
@@ -38,11 +38,12 @@ use Rattle.analysis.specs.Analysis.{blockersOf, leastUnder, answerOf, responseO
 use Rattle.analysis.proofs.AnswerLaws.{combined-same, plain-blocks, access-blocks}
 use Rattle.analysis.proofs.Orders.{harder-no-sooner}
 use Rattle.scaling.specs.Scaling.{scaledWork, scaledBy}
+use Rattle.scaling.specs.Scaling.{FitsBy}
 use Rattle.scaling.proofs.ScaledLaws.{scaled-at, harder-scaled, work-mono}
 use Rattle.scaling.proofs.ScaledTexts.{scaled-reads, scaled-accepted, works-fit}
 use Rattle.growth.specs.Growth.{verdictOn, verdictOf, passes, growthOf, Bounds}
 use Rattle.growth.specs.Tried.{scaledTerm, scaledLeast, reloadsOn, scaledLatest, answersOn, Accessed, blockersIn, FitsUpTo}
-use Rattle.growth.proofs.BoundLaws.{Descends, not-true, bounds-same, bounds-both, bounds-greatest, greatest-bounds}
+use Rattle.growth.proofs.BoundLaws.{Descends, bounds-whole, bounds-same, bounds-both, bounds-greatest, greatest-bounds}
 use Rattle.growth.proofs.TriedLaws.{earlier-some}
 
 -- ---- the answers that are tried on a board are those of the scaled table
@@ -111,21 +112,11 @@ accessed table i p held = record {
 
 -- ---- verdicts, one task at a time
 
-and-turn : (a b : Bool) → (a && b) ≡ (b && a)
-and-turn true true = refl
-and-turn true false = refl
-and-turn false true = refl
-and-turn false false = refl
-
-and-assoc : (a b c : Bool) → ((a && b) && c) ≡ (a && (b && c))
-and-assoc true b c = refl
-and-assoc false b c = refl
-
 module _ (f : ℕ → Response) where
-  pub verdict-none : verdict 0 f ≡ true
+  verdict-none : verdict 0 f ≡ true
   verdict-none = fold-none _&&_ true (λ i. hasResponse (f i)) 0
 
-  pub verdict-next : (n : ℕ) → (verdict n f && hasResponse (f n)) ≡ verdict (n + 1) f
+  verdict-next : (n : ℕ) → (verdict n f && hasResponse (f n)) ≡ verdict (n + 1) f
   verdict-next n = fold-next _&&_ true (λ i. hasResponse (f i)) 0 n _ _ zero-le refl refl
 
 -- and from the last task up, with their bounds
@@ -137,18 +128,18 @@ module _ (table : Table) (m most : ℕ) where
   verdictFrom i k = fold _&&_ true (answers k) (between i (table .count))
 
   pub tasks-none : Bounds (verdictFrom (table .count)) most most
-  tasks-none = record { most = omega arith; pass = λ k l h. fold-none _&&_ true (answers k) (table .count); fail = λ k l h. absurd (omega (arith, l, h)) }
+  tasks-none = bounds-whole _ most (λ k l h. fold-none _&&_ true (answers k) (table .count))
 
   -- one task more in front
-  front : (i k : ℕ) → i < table .count → (verdictFrom (i + 1) k && answers k i) ≡ verdictFrom i k
-  front i k h =
-      and-turn (verdictFrom (i + 1) k) (answers k i)
-      ∙ fold-front _&&_ and-assoc true true (answers k) i (table .count) _ _ h (and-turn true (answers k i)) refl refl
+  verdict-front : (i k : ℕ) → i < table .count → (verdictFrom (i + 1) k && answers k i) ≡ verdictFrom i k
+  verdict-front i k h =
+      and-comm (verdictFrom (i + 1) k) (answers k i)
+      ∙ fold-front _&&_ and-assoc true true (answers k) i (table .count) _ _ h (and-comm true (answers k i)) refl refl
 
   pub tasks-next : (n : ℕ) (board : List ℕ) → BoardOf table n board → (i r s : ℕ) → i < n → i < table .count → m ≤ 5
       → Bounds (verdictFrom (i + 1)) most r → Bounds (answersOn board (blockersOf table i) m i) r s → Bounds (verdictFrom i) most s
   tasks-next n board is i r s here held h b c =
-      bounds-same _ _ most s (λ k l d. ap (λ (t : Bool). verdictFrom (i + 1) k && t) (scaled-answers table n board is i here k m h) ∙ front i k held)
+      bounds-same _ _ most s (λ k l d. ap (λ (t : Bool). verdictFrom (i + 1) k && t) (scaled-answers table n board is i here k m h) ∙ verdict-front i k held)
       (bounds-both (verdictFrom (i + 1)) (answersOn board (blockersOf table i) m i) most r s b c)
 
   -- where no k is left by some, none is left by all
@@ -158,11 +149,11 @@ module _ (table : Table) (m most : ℕ) where
       tasks-left i (omega arith) (record {
         most = b .most;
         pass = λ k l m. absurd (omega (arith, l, m));
-        fail = λ k l m. sym (front i k (omega arith)) ∙ rw (add-one i, b .fail k l m);
+        fail = λ k l m. sym (verdict-front i k (omega arith)) ∙ rw (add-one i, b .fail k l m);
       })
 
 -- it is `yes` where every task has a response, so it stays `yes` where each does that did
-pub verdict-descends : (f g : ℕ → Response) (n : ℕ) → ((i : ℕ) → i < n → hasResponse (g i) ≡ true → hasResponse (f i) ≡ true) → verdict n g ≡ true → verdict n f ≡ true
+verdict-descends : (f g : ℕ → Response) (n : ℕ) → ((i : ℕ) → i < n → hasResponse (g i) ≡ true → hasResponse (f i) ≡ true) → verdict n g ≡ true → verdict n f ≡ true
 verdict-descends f g zero h e = verdict-none f
 verdict-descends f g (suc n) h e =
     let both = and-eq-true-iff (verdict n g) (hasResponse (g n)) .0 (verdict-next g n ∙ rw (add-one n) e) in
@@ -174,11 +165,7 @@ pub readable-table : (table : Table) → Readable table → AcceptedTable table
 readable-table table (text, e) = subst (λ (o : Outcome). AcceptedTable (o .table)) e (accepted-table text (ap (λ (o : Outcome). o .ruling) e))
 
 module _ (table : Table) (readable : Readable table) (m : ℕ) where
-  -- no C is scaled beyond the longest
-  abbrev pub AllFit : ℕ → Type 0
-  AllFit k = (j : ℕ) → j < table .count → scaledWork k (at table j .work .0) ≤ 250000000
-
-  pub fits-passes : (k : ℕ) → 1 ≤ k → AllFit k → passes m table k ≡ verdictOn m (scaledBy k table)
+  pub fits-passes : (k : ℕ) → 1 ≤ k → FitsBy k table → passes m table k ≡ verdictOn m (scaledBy k table)
   unfolding passes
   fits-passes k some h = ap (verdictOf m) (scaled-reads table readable k some h)
 
@@ -190,7 +177,7 @@ module _ (table : Table) (readable : Readable table) (m : ℕ) where
       go Accepted q = q
       go (Refused r) q = absurd (false≢true (rw q at e))
 
-  pub passes-fits : (k : ℕ) → 1 ≤ k → passes m table k ≡ true → AllFit k
+  pub passes-fits : (k : ℕ) → 1 ≤ k → passes m table k ≡ true → FitsBy k table
   unfolding passes
   passes-fits k some e = works-fit table readable k some (yes-accepted _ e)
 
@@ -199,14 +186,14 @@ module _ (table : Table) (readable : Readable table) (m : ℕ) where
   unfolding scaledBy
   passes-descends n k l some h most e =
       let more = passes-fits l (omega arith) e in
-      let less : AllFit k = λ j b. omega (arith, work-mono (at table j .work .0) k l h, more j b) in
+      let less : FitsBy k table = λ j b. omega (arith, work-mono (at table j .work .0) k l h, more j b) in
       fits-passes k some less
       ∙ verdict-descends (responseOf (scaledBy k table) m) (responseOf (scaledBy l table) m) (table .count)
       (λ i b. earlier-some (responseOf (scaledBy k table) m i) (responseOf (scaledBy l table) m i)
       (harder-no-sooner (scaledBy k table) (scaledBy l table) (harder-scaled table k l h) (scaled-accepted table readable k some less) (scaled-accepted table readable l (omega arith) more) m i b))
       (sym (fits-passes l (omega arith) more) ∙ e)
 
-  -- every k from 1 up to the growth passes, and every larger one up to 4,000 fails
+  -- of the k up to 4,000 just those from 1 up to the growth pass
   pub growth-means : Bounds (passes m table) 4000 (growthOf m table)
   unfolding growthOf
   growth-means = greatest-bounds (passes m table) 4000 (passes-descends 4000)
@@ -222,14 +209,14 @@ module _ (table : Table) (readable : Readable table) (m : ℕ) where
   unfolding scaledBy
   growth-is board is most r a b = growth-unique r (record { most = omega (arith, a .most, b .most); pass = pass; fail = fail })
     where
-      fit : (k : ℕ) → k ≤ most → AllFit k
+      fit : (k : ℕ) → k ≤ most → FitsBy k table
       fit k h j l = rw (sym (is .tasks j l .work)) (omega (arith, work-mono (workOn board j) k most h, a .works j l))
 
       pass : (k : ℕ) → 1 ≤ k → k ≤ r → passes m table k ≡ true
       pass k l h = fits-passes k l (fit k (omega (arith, b .most))) ∙ b .pass k l h
 
       fail : (k : ℕ) → r < k → k ≤ 4000 → passes m table k ≡ false
-      fail k l h = elim (decLe k most) [ yes d ↦ fits-passes k (omega arith) (fit k d) ∙ b .fail k l d | no d ↦ not-true _ (past (a .past k (omega arith) h)) ]
+      fail k l h = elim (decLe k most) [ yes d ↦ fits-passes k (omega arith) (fit k d) ∙ b .fail k l d | no d ↦ not-eq-not .0 (past (a .past k (omega arith) h)) ]
         where
           past : (j : ℕ) × (j < table .count) × (250000000 < scaledWork k (workOn board j)) → passes m table k ≡ true → ⊥
           past (j, d, x) e = let fits = passes-fits k (omega arith) e j d in omega (arith, rw (sym (is .tasks j d .work)) at fits)

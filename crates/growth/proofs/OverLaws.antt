@@ -26,15 +26,15 @@ use Rattle.analysis.proofs.AnswerLaws.{combined-at, combined-below}
 use Rattle.scaling.specs.Scaling.{scaledWork}
 use Rattle.growth.specs.Growth.{Bounds}
 use Rattle.growth.specs.Tried.{scaledLeast, answersBy, reloadsOn, answersUnder, scaledLatest, answersOn}
-use Rattle.growth.proofs.BoundLaws.{bounds-same, bounds-both, bounds-either, bounds-second}
+use Rattle.growth.proofs.BoundLaws.{bounds-whole, bounds-same, bounds-both, bounds-either, bounds-second}
 
 -- there is a later answer where there are both, and a sooner one where there is either
-pub later-some : (a b : Response) → hasResponse (later a b) ≡ (hasResponse a && hasResponse b)
+later-some : (a b : Response) → hasResponse (later a b) ≡ (hasResponse a && hasResponse b)
 later-some (Within a) (Within b) = refl
 later-some (Within a) Unschedulable = refl
 later-some Unschedulable b = refl
 
-pub sooner-some : (a b : Response) → hasResponse (sooner a b) ≡ (hasResponse a || hasResponse b)
+sooner-some : (a b : Response) → hasResponse (sooner a b) ≡ (hasResponse a || hasResponse b)
 sooner-some (Within a) (Within b) = refl
 sooner-some (Within a) Unschedulable = refl
 sooner-some Unschedulable b = refl
@@ -57,7 +57,7 @@ module _ (board : List ℕ) (m i : ℕ) where
   -- nothing blocks
   over-none : (most : ℕ) → Bounds (over []) most most
   unfolding scaledLatest
-  over-none most = record { most = omega arith; pass = λ k l h. refl; fail = λ k l h. absurd (omega (arith, l, h)) }
+  over-none most = bounds-whole _ most (λ k l h. refl)
 
   -- one more that may
   over-more : (l : List Access) (a : Access) (most r s : ℕ) → Bounds (over l) most r → Bounds (answersUnder board a m i) r s → Bounds (over (l ++ (a ∷ []))) most s

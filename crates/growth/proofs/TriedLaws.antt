@@ -31,9 +31,9 @@ use Rattle.growth.specs.Tried.{scaledWeight, scaledTerm, scaledLeast, an
 use Rattle.growth.proofs.BoundLaws.{Descends}
 
 -- an answer in ticks tells whether there is one
-pub told-some : (r : ℕ) → ltb 0 r ≡ hasResponse (toldOf r)
-told-some zero = refl
-told-some (suc r) = lt-ltb 0 (suc r) (omega arith)
+pub told-answers : (r : ℕ) → ltb 0 r ≡ hasResponse (toldOf r)
+told-answers zero = refl
+told-answers (suc r) = lt-ltb 0 (suc r) (omega arith)
 
 -- where a later answer is one, so is this
 pub earlier-some : (a b : Response) → NoLater a b → hasResponse b ≡ true → hasResponse a ≡ true
@@ -59,7 +59,7 @@ module _ (board row : List ℕ) (a : Access) (i : ℕ) (few : FewReloads i row) 
   weights k = front 0 (scaledWeight board reloads k) i
 
   module _ {k : ℕ} (s : Stretches board (i + 1) k) where
-    pub tried-ranged : (j : ℕ) → j < i → InRange (scaledTerm board reloads k j)
+    tried-ranged : (j : ℕ) → j < i → InRange (scaledTerm board reloads k j)
     tried-ranged j l =
         let r = lent-ranged (s .lent) j (omega arith) in
         record {

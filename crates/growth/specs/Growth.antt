@@ -34,10 +34,11 @@ unfoldable pub greatest : (ℕ → Bool) → ℕ → ℕ
 greatest p zero = 0
 greatest p (suc n) = elim (p (suc n)) [ true ↦ suc n | false ↦ greatest p n ]
 
+-- the growth of a table under method m
 unfoldable pub growthOf : ℕ → Table → ℕ
 growthOf m table = greatest (passes m table) 4000
 
--- what a bound r means: every number from 1 up to it passes, and every larger one up to n fails
+-- what a bound r means: of the numbers from 1 to n just those up to r pass
 pub record Bounds (p : ℕ → Bool) (n r : ℕ) : Type 0 where
   pub most : r ≤ n
   pub pass : (k : ℕ) → 1 ≤ k → k ≤ r → p k ≡ true

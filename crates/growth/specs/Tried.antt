@@ -17,36 +17,40 @@ use Rattle.verdicts.specs.Verdicts.{hasResponse}
 use Rattle.analysis.specs.Analysis.{withCombined, Blocks}
 use Rattle.scaling.specs.Scaling.{scaledWork}
 
--- what the task at j asks for at k, by these reload counts, and the answer for the task at i while an access blocks it
+-- what one activation of the task at j asks for at k, where it reloads so many blocks
 abbrev pub scaledWeight : List ℕ → (ℕ → ℕ) → ℕ → ℕ → ℕ
 scaledWeight board reloads k j = scaledWork k (workOn board j) + brtOn board * reloads j
 
+-- what that task asks for
 abbrev pub scaledTerm : List ℕ → (ℕ → ℕ) → ℕ → ℕ → Term
 scaledTerm board reloads k j = termOf (periodIn board j) (jitterIn board j) (scaledWeight board reloads k j)
 
+-- the answer for the task at i at k while an access blocks it
 unfoldable pub scaledLeast : List ℕ → (ℕ → ℕ) → Access → ℕ → ℕ → Response
 scaledLeast board reloads a i k =
     leastOf (demandOf (scaledWork k (workOn board i) + a .lasts .0) (scaledTerm board reloads k) i) (limitOn board i)
 
--- by the counts that a row has, whether there is one
+-- whether it is a response, with the reload counts that a row has
 abbrev pub answersBy : List ℕ → List ℕ → Access → ℕ → ℕ → Bool
 answersBy board row a i k = hasResponse (scaledLeast board (λ j. getD row j 0) a i k)
 
--- counts from which it may be searched for
+-- counts of activations from which it may be searched for
 abbrev pub StartedAt : List ℕ → List ℕ → Access → ℕ → ℕ → List ℕ → List ℕ → Type 0
 StartedAt board row a i k = Started (scaledWork k (workOn board i) + a .lasts .0) (scaledTerm board (λ j. getD row j 0) k) i
 
--- by those of a method, and the latest over some accesses
+-- the reload counts of method m while an access blocks i
 abbrev pub reloadsOn : List ℕ → Access → ℕ → ℕ → ℕ → ℕ
 reloadsOn board a m i j = reloadsWith (ucbOn board) (ecbOn board) (addedBy a j) (a .task) m i j
 
+-- whether there is a response with these
 abbrev pub answersUnder : List ℕ → Access → ℕ → ℕ → ℕ → Bool
 answersUnder board a m i k = hasResponse (scaledLeast board (reloadsOn board a m i) a i k)
 
+-- the latest of the answers while each of some accesses blocks
 unfoldable pub scaledLatest : List ℕ → List Access → ℕ → ℕ → ℕ → Response
 scaledLatest board blockers m i k = latestOf (map (λ a. scaledLeast board (reloadsOn board a m i) a i k) blockers)
 
--- and with method 5, whether there is one
+-- whether that is a response, under the methods 0 to 5
 abbrev pub answersOn : List ℕ → List Access → ℕ → ℕ → ℕ → Bool
 answersOn board blockers m i k = hasResponse (withCombined (λ m. scaledLatest board blockers m i k) m)
 
@@ -67,7 +71,7 @@ pub record Stretches (board : List ℕ) (n k : ℕ) : Type 0 where
   pub most : k ≤ 4000
   pub works : (j : ℕ) → j < n → scaledWork k (workOn board j) ≤ 250000000
 
--- by no k up to r is a C of the first n tasks scaled beyond the longest, and by every larger one up to 4,000 some C is
+-- of the k up to 4,000 just those up to r scale no C of the first n tasks beyond the longest
 pub record FitsUpTo (board : List ℕ) (n r : ℕ) : Type 0 where
   pub most : r ≤ 4000
   pub works : (j : ℕ) → j < n → scaledWork r (workOn board j) ≤ 250000000

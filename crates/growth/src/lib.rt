@@ -27,7 +27,7 @@ ghost use Rattle.growth.specs.Growth.{growthOf, Bounds};
 ghost use Rattle.growth.specs.Tried.{scaledWeight, answersBy, StartedAt, answersUnder, scaledLatest, answersOn, Accessed, blockersIn, Stretches, FitsUpTo};
 
 // The greatest k that is tried.
-const MOST: u64 = 4000;
+const MOST_TRIED: u64 = 4000;
 
 // What C times k may not be above: the longest C, in thousandths.
 const LONGEST: u64 = 250000000000;
@@ -87,7 +87,8 @@ fn answers(
     0 < response::least(own, board, &weights, i, limit, counts, ends)
 }
 
-// The greatest k up to `most` at which it has one. What is found out at a k where it has a response is what a greater k is searched from.
+// The greatest k up to `most` at which the task at i has a response while an access blocks it. What is searched out at a k where it has one is what a greater
+// k is searched from.
 fn bisected(board: &[u64], i: usize, row: &[u64], access: Access, most: u64) -> u64
     requires { ⌜ Stretches (now board) (i + 1) most × FewReloads i (now row) × Blocks i access ⌝ }
     ensures { λ r. ⌜ Bounds (answersBy (now (board .entry)) (now (row .entry)) access i) most r ⌝ }
@@ -119,7 +120,7 @@ fn bisected(board: &[u64], i: usize, row: &[u64], access: Access, most: u64) -> 
     low
 }
 
-// The same under one of the methods 0 to 4, of which `row` has the charges without the access.
+// The greatest such k under one of the methods 0 to 4, of which `row` has the charges without the access.
 fn under(board: &[u64], method: u64, i: usize, row: &[u64; ROW], access: Access, most: u64) -> u64
     requires { ⌜ (method ≤ 4) × Stretches (now board) (i + 1) most × Charged (now board) method i 0 (now row) × Blocks i access ⌝ }
     ensures { λ r. ⌜ Bounds (answersUnder (now (board .entry)) access method i) most r ⌝ }
@@ -129,7 +130,8 @@ fn under(board: &[u64], method: u64, i: usize, row: &[u64; ROW], access: Access,
     bisected(board, i, &joined, access, most)
 }
 
-// The same over all of the first `listed` accesses that may block the task, and where none may with its B, `plain`.
+// The greatest k up to `most` at which the task at i has a response whichever of the first `listed` accesses blocks it that may, and where none may with its
+// B, which is `plain`.
 fn over_blockers(
     board: &[u64],
     method: u64,
@@ -158,7 +160,7 @@ fn over_blockers(
     left
 }
 
-// The same under one of the methods 0 to 5. By combined a task has a response where it has one by either union.
+// The greatest such k under one of the methods 0 to 5. By combined a task has a response where it has one by either union.
 fn by_method(
     board: &[u64],
     method: u64,
@@ -193,7 +195,7 @@ fn fits_up_to(board: &[u64], count: usize) -> u64
     requires { ⌜ Lent (now board) count ⌝ }
     ensures { λ r. ⌜ FitsUpTo (now (board .entry)) count r ⌝ }
 {
-    let mut most = MOST;
+    let mut most = MOST_TRIED;
     for j in 0..count {
         most = smaller(most, LONGEST / board[WORKS + j]);
     }

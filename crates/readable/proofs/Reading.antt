@@ -27,6 +27,7 @@ use Rattle.faults.proofs.Chain.{fine-row}
 use Rattle.faults.proofs.LineLaws.{HeadHolds, head-holds, TaskHolds, task-holds}
 use Rattle.table.specs.declared.Table.{Table}
 use Rattle.table.specs.declared.Outcome.{Outcome}
+use Rattle.table.specs.declared.Ruling.the-variants.{Accepted}
 use Rattle.table.specs.Tasks.{newTable, tasksOf, namesOf, accessesOf, withTask, withAccess}
 use Rattle.table.specs.Reading.{refused, accepted, unlessFault, withLine, headTable, readFrom, readLines, readText}
 use Rattle.table_text.specs.TableText.{headText, taskText, accessText, accessTextIn, tableText}
@@ -43,6 +44,10 @@ unless-accepted Fine line next table e = (refl, e)
 unless-accepted (Fault number) line next table e =
     let ruled = ap (λ (o : Outcome). o .ruling) e in
     let z : _≡_ {A = ℕ} 0 1 = cc in absurd (omega arith)
+
+-- an outcome that accepts is the acceptance of its table
+pub accepted-is : (o : Outcome) → o .ruling ≡ Accepted → o ≡ accepted (o .table)
+accepted-is o e = λ i. record { ruling = e i; table = o .table }
 
 -- ---- the table while it is read
 

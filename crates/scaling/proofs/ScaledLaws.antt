@@ -51,18 +51,18 @@ abbrev pub scaledFirst : ℕ → ℕ → List Task → List Task
 scaledFirst k j ts = map (scaledTask k) (take j ts) ++ drop j ts
 
 module _ (k j : ℕ) (ts : List Task) (h : j < length ts) where
-  front-long : length (map (scaledTask k) (take j ts)) ≡ j
-  front-long = length-map (take j ts) (scaledTask k) ∙ length-take-le j ts (omega arith)
+  first-long : length (map (scaledTask k) (take j ts)) ≡ j
+  first-long = length-map (take j ts) (scaledTask k) ∙ length-take-le j ts (omega arith)
 
   -- the next is as it was
   first-at : getD (scaledFirst k j ts) j blank ≡ getD ts j blank
-  first-at = rw (drop-cons ts j blank h) (getD-at (map (scaledTask k) (take j ts)) (getD ts j blank) (drop (suc j) ts) blank j front-long)
+  first-at = rw (drop-cons ts j blank h) (getD-at (map (scaledTask k) (take j ts)) (getD ts j blank) (drop (suc j) ts) blank j first-long)
 
   -- and once it is scaled too, they are one more
   first-next : set (scaledFirst k j ts) j (scaledTask k (getD ts j blank)) ≡ scaledFirst k (j + 1) ts
   first-next =
       rw (drop-cons ts j blank h, add-one j, take-suc ts j blank h, map-snoc, append-snoc)
-      (set-at (map (scaledTask k) (take j ts)) (getD ts j blank) (drop (suc j) ts) (scaledTask k (getD ts j blank)) j front-long)
+      (set-at (map (scaledTask k) (take j ts)) (getD ts j blank) (drop (suc j) ts) (scaledTask k (getD ts j blank)) j first-long)
 
 -- and the first of as many as there are, or more, are all of them
 pub first-all : (k j : ℕ) (ts : List Task) → length ts ≤ j → scaledFirst k j ts ≡ map (scaledTask k) ts
@@ -79,8 +79,8 @@ withTasks table ts = record {
   accesses = table .accesses;
 }
 
-abbrev withWork : Task → Ticks → Task
-withWork t work = record {
+abbrev withC : Task → Ticks → Task
+withC t work = record {
   name = t .name;
   work = work;
   period = t .period;
@@ -97,11 +97,11 @@ module _ (k j : ℕ) (table now : Table) (h : j < length (table .tasks)) (e : no
   next-is = ap (λ (T : Table). getD (T .tasks) j blank) e ∙ first-at k j (table .tasks) h
 
   pub next-scaled : (work : Ticks) → work .0 ≡ scaledWork k (getD (now .tasks) j blank .work .0)
-      → withTasks now (set (now .tasks) j (withWork (getD (now .tasks) j blank) work)) ≡ withTasks table (scaledFirst k (j + 1) (table .tasks))
+      → withTasks now (set (now .tasks) j (withC (getD (now .tasks) j blank) work)) ≡ withTasks table (scaledFirst k (j + 1) (table .tasks))
   next-scaled work w =
-      let is : withWork (getD (now .tasks) j blank) work ≡ scaledTask k (getD (table .tasks) j blank) =
-      (λ i. withWork (getD (now .tasks) j blank) (record { 0 = w i })) ∙ ap (scaledTask k) next-is in
-      ap (λ (T : Table). withTasks T (set (T .tasks) j (withWork (getD (now .tasks) j blank) work))) e
+      let is : withC (getD (now .tasks) j blank) work ≡ scaledTask k (getD (table .tasks) j blank) =
+      (λ i. withC (getD (now .tasks) j blank) (record { 0 = w i })) ∙ ap (scaledTask k) next-is in
+      ap (λ (T : Table). withTasks T (set (T .tasks) j (withC (getD (now .tasks) j blank) work))) e
       ∙ ap (λ (t : Task). withTasks table (set (scaledFirst k j (table .tasks)) j t)) is
       ∙ ap (withTasks table) (first-next k j (table .tasks) h)
 

@@ -40,9 +40,9 @@ use Rattle.readable.proofs.Numbers.{digits-read, number-text}
 use Rattle.readable.proofs.Lines.{AllPlain, field-at, joined-plain, NoneEnds, lines-ended}
 use Rattle.readable.proofs.TaskLines.{taskFields, taskBytes, headBytes, number-plain, marks-plain, name-plain, shape-says, head-fields}
 use Rattle.readable.proofs.AccessLines.{accessBytes}
-use Rattle.readable.proofs.Reading.{unless-accepted, Grown, grown-head, read-on, grown-readable}
+use Rattle.readable.proofs.Reading.{accepted-is, unless-accepted, Grown, grown-head, read-on, grown-readable}
 use Rattle.readable.proofs.RoundTrip.{taskLines, accessLines, linesOf, text-lines, none-ends-append, accesses-end, readable-accepted, reads-back, tests-are-meant}
-use Rattle.scaling.specs.Scaling.{scaledWork, scaledTask, scaledBy, Scalable}
+use Rattle.scaling.specs.Scaling.{FitsBy, scaledWork, scaledTask, scaledBy, Scalable}
 use Rattle.scaling.proofs.ScaledLaws.{unworked, scaled-tasks, scaled-place, scaled-at, work-some}
 
 -- ---- what a text leaves in the table that it gives
@@ -171,9 +171,6 @@ tasks-end sets (t ∷ ts) plain = (joined-plain (84 ∷ []) (taskFields sets t) 
 
 -- ---- the text of a scaled table
 
-accepted-is : (o : Outcome) → o .ruling ≡ Accepted → o ≡ accepted (o .table)
-accepted-is o e = λ i. record { ruling = e i; table = o .table }
-
 module _ (table : Table) (readable : Readable table) (k : ℕ) (some : 1 ≤ k) where
   abbrev scaled : Table
   scaled = scaledBy k table
@@ -187,10 +184,6 @@ module _ (table : Table) (readable : Readable table) (k : ℕ) (some : 1 ≤ k) 
   is-readable : isReadable table ≡ true
   is-readable = tests-are-meant table is-whole .1 readable
 
-  -- no C is scaled beyond the longest
-  abbrev Fits : Type 0
-  Fits = (j : ℕ) → j < table .count → scaledWork k (at table j .work .0) ≤ 250000000
-
   whole-scaled : Whole scaled
   unfolding scaledBy
   whole-scaled = record { tasks = length-map (table .tasks) (scaledTask k) ∙ grown .long; accesses = grown .long-accesses }
@@ -200,7 +193,7 @@ module _ (table : Table) (readable : Readable table) (k : ℕ) (some : 1 ≤ k) 
   unfolding scaledBy
   names-scaled j = ap (map nameIn) (take-map (scaledTask k) j (table .tasks)) ∙ map-map nameIn (scaledTask k) (take j (table .tasks))
 
-  grown-scaled : Fits → Grown scaled
+  grown-scaled : FitsBy k table → Grown scaled
   unfolding scaledBy at
   grown-scaled fits = record {
     long = whole-scaled .tasks;
@@ -223,17 +216,17 @@ module _ (table : Table) (readable : Readable table) (k : ℕ) (some : 1 ≤ k) 
   unblocked : blockedFault (table .«access_count») (tasksOf scaled) ≡ Fine
   unblocked = rw (scaled-tasks k table, unblocked-scaled k (table .«access_count») (tasksOf table)) (given table readable .unblocked)
 
-  passes : Fits → isReadable scaled ≡ true
+  readable-scaled : FitsBy k table → isReadable scaled ≡ true
   unfolding scaledBy
-  passes fits = grown-readable scaled (grown-scaled fits) (given table readable .some) unblocked
+  readable-scaled fits = grown-readable scaled (grown-scaled fits) (given table readable .some) unblocked
 
   -- where no C is scaled beyond the longest, the text of the scaled table is accepted as that table
-  pub scaled-reads : ((j : ℕ) → j < table .count → scaledWork k (at table j .work .0) ≤ 250000000) → readText (tableText (scaledBy k table)) ≡ accepted (scaledBy k table)
-  scaled-reads fits = reads-back scaled whole-scaled (passes fits)
+  pub scaled-reads : FitsBy k table → readText (tableText (scaledBy k table)) ≡ accepted (scaledBy k table)
+  scaled-reads fits = reads-back scaled whole-scaled (readable-scaled fits)
 
   -- so all that holds of an accepted table holds of it
-  pub scaled-accepted : ((j : ℕ) → j < table .count → scaledWork k (at table j .work .0) ≤ 250000000) → AcceptedTable (scaledBy k table)
-  scaled-accepted fits = readable-accepted scaled whole-scaled (passes fits)
+  pub scaled-accepted : FitsBy k table → AcceptedTable (scaledBy k table)
+  scaled-accepted fits = readable-accepted scaled whole-scaled (readable-scaled fits)
 
   -- ---- where its text is accepted, every task line of it was
 
@@ -275,7 +268,7 @@ module _ (table : Table) (readable : Readable table) (k : ℕ) (some : 1 ≤ k) 
       unless-accepted (headFault (headSaid (headBytes scaled))) 1 _ result from .1
 
   -- so no C is scaled beyond the longest
-  pub works-fit : readText (tableText (scaledBy k table)) .ruling ≡ Accepted → (j : ℕ) → j < table .count → scaledWork k (at table j .work .0) ≤ 250000000
+  pub works-fit : readText (tableText (scaledBy k table)) .ruling ≡ Accepted → FitsBy k table
   unfolding scaledBy at
   works-fit ruled j h =
       let result = readText (tableText scaled) .table in

@@ -8,11 +8,13 @@ use Rattle.demand.specs.Demand.{ceil}
 use Rattle.tasks.specs.declared.Task.{Task}
 use Rattle.tasks.specs.Tasks.{blank}
 use Rattle.table.specs.declared.Table.{Table}
+use Rattle.table.specs.Tasks.{at}
 
 -- ⌈C × k / 1000⌉
 abbrev pub scaledWork : ℕ → ℕ → ℕ
 scaledWork k c = ceil (c * k) 1000
 
+-- a task with its C scaled
 abbrev pub scaledTask : ℕ → Task → Task
 scaledTask k t = record {
   name = t .name;
@@ -25,6 +27,7 @@ scaledTask k t = record {
   ecb = t .ecb;
 }
 
+-- a table with the C of every task scaled
 unfoldable pub scaledBy : ℕ → Table → Table
 scaledBy k table = record {
   sets = table .sets;
@@ -34,6 +37,10 @@ scaledBy k table = record {
   «access_count» = table .«access_count»;
   accesses = table .accesses;
 }
+
+-- by k no C of the table is scaled beyond the longest
+abbrev pub FitsBy : ℕ → Table → Type 0
+FitsBy k table = (j : ℕ) → j < table .count → scaledWork k (at table j .work .0) ≤ 250000000
 
 -- what may be scaled, by up to 4,000 thousandths: no place has a C above the longest
 pub record Scalable (k : ℕ) (table : Table) : Type 0 where

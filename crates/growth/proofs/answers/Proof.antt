@@ -8,7 +8,7 @@ use Rattle.demand.specs.Least.{toldOf}
 use Rattle.board.proofs.LentLaws.{lent-ranged}
 use Rattle.verdicts.specs.Verdicts.{hasResponse}
 use Rattle.growth.specs.Tried.{scaledLeast}
-use Rattle.growth.proofs.TriedLaws.{told-some, tried-handed, tried-least, tried-at-limit, started-in, started-out}
+use Rattle.growth.proofs.TriedLaws.{told-answers, tried-handed, tried-least, tried-at-limit, started-in, started-out}
 use Rattle.growth.proofs.answers.Statement.{statement}
 use Rattle.growth.proofs.answers.Tie as tie
 
@@ -70,7 +70,7 @@ returns-2 c =
     let weights = c .before .before .before .before .before .before .before .before .before .before .before .before .before .scaled-weights .ensures in
     let is : toldOf (c .least .result) ≡ scaledLeast (a .board .now) (λ (j : ℕ). getD (a .row .now) j 0) (a .access) (a .i) (a .k) =
     c .least .ensures .0 ∙ rw (own, weights) (tried-least _ _ _ _ (p .2) (p .3) (p .1)) in
-    (told-some (c .least .result) ∙ ap hasResponse is, started-out _ _ _ _ (p .2) (p .3) (p .1) _ _ (rw (own, weights) at (c .least .ensures .1)))
+    (told-answers (c .least .result) ∙ ap hasResponse is, started-out _ _ _ _ (p .2) (p .3) (p .1) _ _ (rw (own, weights) at (c .least .ensures .1)))
 
 pub answers-spec : {M : Type 1} → statement M
 answers-spec =
