@@ -86,5 +86,11 @@ done
 for error in 69 70 72; do
     find_error 'scaled tables' "$error"
 done
+for error in 73 82; do
+    find_error 'reports of a worker that had other tables before' "$error"
+done
+for error in 74 75 76 77 78 79 80 81; do
+    find_error 'sums and unions in any order' "$error"
+done
 printf '%s passed, %s failed\n' "$passed" "$failed"
 [ "$failed" = 0 ]

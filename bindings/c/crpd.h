@@ -4,6 +4,10 @@
  * answer; from 2^32 on it is a refusal, whose number and line the functions at the end take out. The
  * refusals of a text are 1 to 11, and 15 to 17 where it has access lines; 12 and 13 are those of a method
  * and a position, and 14 that of a buffer. README.md says when each is given.
+ *
+ * No function keeps anything from one call to the next: the answer, and every byte that is written, come
+ * from the text, the numbers and the length of the buffer alone. So calls may be made in any order and by
+ * several threads at once, each with a buffer of its own, which need not be cleared.
  */
 #ifndef CRPD_H
 #define CRPD_H

@@ -1,6 +1,9 @@
 //! Asking the model and the library the same, and telling where they differ.
 
 pub mod growths;
+pub mod pool;
+pub mod sets;
+pub mod sums;
 
 use crate::library;
 use crate::model::value::{Value, NUMBERS};

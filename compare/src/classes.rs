@@ -4,12 +4,14 @@ mod access_reasons;
 mod accesses;
 mod explained;
 mod growths;
+mod pool;
 mod reasons;
 mod spelled;
 mod values;
 
 pub use reasons::reasons;
 
+use crate::checks::pool::{Call, Made};
 use crate::model::value::Value;
 use crate::model::{Growths, Outcome, Row, Table, Task, Writing};
 use std::collections::{BTreeMap, BTreeSet};
@@ -131,6 +133,7 @@ impl Classes {
             explained::all(),
             values::all(),
             growths::all(),
+            pool::all(),
         ];
         for name in further.iter().flatten() {
             classes.require(name);
@@ -183,6 +186,17 @@ impl Classes {
     /// By a text that was asked for all its growths and scaled tables.
     pub fn reach_growths(&mut self, text: &[u8], outcome: &Outcome, growths: &Growths) {
         for name in growths::reached(text, outcome, growths) {
+            self.reach(&name);
+        }
+    }
+
+    /// By the calls that each worker of a pool made, in step with the others or not.
+    pub fn reach_pool(&mut self, calls: &[Call], logs: &[Vec<Made>], in_step: bool) {
+        let mut names = pool::reached(calls, logs);
+        if in_step {
+            names.extend(pool::reached_in_step(calls, logs));
+        }
+        for name in names {
             self.reach(&name);
         }
     }

@@ -115,9 +115,14 @@ const A: &str = "K 4 1|T a 1 20 20 0 0 0 f|T b 2 40 40 0 0 3 f|T c 2 60 60 0 0 c
 const B: &str = "K 4 1|T a 1 20 20 0 0 0 3|T b 2 40 40 0 0 0 c|T c 2 60 60 0 0 f f|";
 const M: &str = "K 8 1|T a 1 20 20 0 0 00 0f|T b 2 40 40 0 0 03 30|T c 2 60 60 0 0 3c 3c|";
 const P: &str = "K 4 0|T a 2 5 5 0 0 0 0|T b 3 8 8 0 0 0 0|";
+/// The order of the lines is that of priority, so that the other one has another report.
+const P_TURNED: &str = "K 4 0|T b 3 8 8 0 0 0 0|T a 2 5 5 0 0 0 0|";
 
 const A_REPORT: &str = "R a 20 1 1 1 1 1 1|R b 40 3 7 5 5 5 5|R c 60 5 13 9 11 9 9|\
                         V yes yes yes yes yes yes|";
+
+const P_REPORT: &str = "R a 5 2 2 2 2 2 2|R b 8 5 5 5 5 5 5|V yes yes yes yes yes yes|";
+const P_TURNED_REPORT: &str = "R b 8 3 3 3 3 3 3|R a 5 5 5 5 5 5 5|V yes yes yes yes yes yes|";
 
 const A_BY_3: &str = "X c 3 11 60 2 0|I a 1 4 -|I b 1 2 -|";
 const A_BY_4: &str = "X c 4 9 60 2 0|I a 1 2 b|I b 1 2 c|";
@@ -251,19 +256,23 @@ fn responses() -> Vec<Figure> {
 }
 
 fn reports() -> Vec<Figure> {
-    let report = String::from_utf8_lossy(&text(A_REPORT)).into_owned();
-    vec![
-        Figure {
-            name: "A, whole report",
-            text: text(A),
-            expected: Expected::Report(report),
-        },
-        Figure {
-            name: "the longest report",
-            text: longest_report(),
-            expected: Expected::ReportLength(2_746),
-        },
-    ]
+    let rows = [
+        ("A, whole report", A, A_REPORT),
+        ("P, whole report", P, P_REPORT),
+        ("P, its tasks changed round", P_TURNED, P_TURNED_REPORT),
+    ];
+    let reported = |(name, table, report)| Figure {
+        name,
+        text: text(table),
+        expected: Expected::Report(String::from_utf8_lossy(&text(report)).into_owned()),
+    };
+    let mut figures: Vec<Figure> = rows.into_iter().map(reported).collect();
+    figures.push(Figure {
+        name: "the longest report",
+        text: longest_report(),
+        expected: Expected::ReportLength(2_746),
+    });
+    figures
 }
 
 fn explanations() -> Vec<Figure> {

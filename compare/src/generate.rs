@@ -1,16 +1,20 @@
 //! Made-up tables that are valid.
 
 mod accesses;
+mod builds;
 mod families;
 mod growing;
+mod measuring;
 mod published;
 
 pub use accesses::ACCESSES_MOST;
+pub use builds::builds;
 pub use families::{
     crossed, edges, full, largest, loaded, near_end, near_limit, shared, small, unions, Family,
     BASES,
 };
 pub use growing::{by_either_union, finely_in_time, just_in_time, nearly_refused};
+pub use measuring::{any_cache_sets, measuring_evicting, measuring_useful};
 pub use published::{
     hardly_a_tick_left, hardly_a_tick_left_if_blocked, no_tick_left, published, share_as_published,
 };

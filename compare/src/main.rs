@@ -15,6 +15,10 @@ use crpd_compare::{damage, figures, library, values};
 
 #[path = "main/growths.rs"]
 mod growths;
+#[path = "main/pool.rs"]
+mod pool;
+#[path = "main/sums.rs"]
+mod sums;
 
 crpd_compare::entry!(run);
 
@@ -95,6 +99,8 @@ impl Comparison {
                     let spoiled = self.spoiled_texts();
                     self.growths(&valid, &spoiled);
                 }
+                Part::Summing => self.sums(&valid),
+                Part::Working => self.workers(&valid, &[]),
             }
             return;
         }
@@ -115,6 +121,10 @@ impl Comparison {
         self.growths(&valid, &refused);
         self.growth_ends(&valid, &refused);
         self.scaled_rooms(&refused);
+        self.sums(&valid);
+        self.laws_of_sets();
+        self.workers(&valid, &refused);
+        self.pool(&valid, &refused);
         if self.options.percent == 100 {
             self.class_counts();
         }
@@ -464,7 +474,11 @@ fn tell_least(
     let least = shrink(text, &|text| differs(text).is_some());
     tell_difference(group, &differs(&least).unwrap_or(difference));
     println!("  the smallest text that shows it ({} bytes):", least.len());
-    for line in least.split_inclusive(|byte| *byte == b'\n') {
+    tell_text(&least);
+}
+
+fn tell_text(text: &[u8]) {
+    for line in text.split_inclusive(|byte| *byte == b'\n') {
         println!("    {}", line.escape_ascii());
     }
 }

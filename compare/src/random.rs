@@ -36,6 +36,13 @@ impl Random {
         &choices[self.below(choices.len())]
     }
 
+    /// Puts the items into any order.
+    pub fn shuffle<T>(&mut self, items: &mut [T]) {
+        for last in (1..items.len()).rev() {
+            items.swap(last, self.below(last + 1));
+        }
+    }
+
     /// A number from `low` to `high` of which each order of magnitude is about as likely.
     pub fn magnitude(&mut self, low: u64, high: u64) -> u64 {
         let bits = |number: u64| u64::from(64 - number.leading_zeros());

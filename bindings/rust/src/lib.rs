@@ -1,5 +1,9 @@
 //! Worst-case response times of the tasks of a table text, by the proved library, as safe functions. They
 //! take every text, number and buffer. Nothing checks the declarations below against the library's source.
+//!
+//! No function keeps anything from one call to the next: the answer, and every byte that is written, come
+//! from the text, the numbers and the length of the buffer alone. So they may be called in any order and by
+//! several threads at once; a buffer need not be cleared.
 
 /// No report is longer.
 pub const REPORT_MOST: usize = 2746;

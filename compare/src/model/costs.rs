@@ -1,6 +1,7 @@
 //! Reload counts: how many blocks one activation of a task may cost another.
 
 use super::blocking::Blocker;
+use super::order::Orders;
 use super::{Error, Table, Task};
 use std::ops::Range;
 
@@ -11,8 +12,9 @@ pub const METHODS: u64 = 6;
 /// A cache set lies in a union over some of them if one of these is among its users; no union has to
 /// be formed. A user is a number: that of a task is its position, and the accesses go on from there.
 pub struct Reloads<'a> {
-    table: &'a Table,
-    /// For each cache set the users it is useful to, in rising order.
+    pub table: &'a Table,
+    pub orders: Orders,
+    /// For each cache set the users it is useful to, as their union takes them.
     useful_to: Vec<Vec<usize>>,
     /// For each user and each j: how many of the sets useful to it the tasks from 0 to j evict.
     evicted_down_to: Vec<Vec<usize>>,
@@ -47,21 +49,27 @@ pub struct Victim {
 
 impl<'a> Reloads<'a> {
     pub fn new(table: &'a Table, error: Option<Error>) -> Reloads<'a> {
-        let tasks = table.tasks.iter();
-        let evicted_by = users(table.sets, tasks.map(|task| &task.evicting));
-        let evicted = |useful: &Vec<usize>, j: usize| {
-            let first = |set: &usize| evicted_by[*set].first().copied();
-            let evicting = useful.iter().filter_map(first);
-            evicting.filter(|evicting| *evicting <= j).count()
+        Reloads::in_orders(table, Orders::usual(table), error)
+    }
+
+    pub fn in_orders(table: &'a Table, orders: Orders, error: Option<Error>) -> Reloads<'a> {
+        let all_evicting: Vec<&Vec<usize>> =
+            table.tasks.iter().map(|task| &task.evicting).collect();
+        let all_useful = all_useful(table);
+        let evicted_by = users(table.sets, &orders.evicting_union, &all_evicting);
+        let evicted = |useful: &[usize], j: usize| {
+            let is_evicted = |set: &&usize| evicted_by[**set].iter().any(|evicting| *evicting <= j);
+            useful.iter().filter(is_evicted).count()
         };
-        let evicted_down_to = all_useful(table).map(|useful| {
+        let evicted_down_to = all_useful.iter().map(|useful| {
             let counts = (0..table.tasks.len()).map(|j| evicted(useful, j));
             counts.collect()
         });
         Reloads {
             table,
-            useful_to: users(table.sets, all_useful(table)),
             evicted_down_to: evicted_down_to.collect(),
+            useful_to: users(table.sets, &orders.useful_union, &all_useful),
+            orders,
             error,
         }
     }
@@ -107,12 +115,12 @@ impl<'a> Reloads<'a> {
         Some(Victim { task, in_access })
     }
 
-    /// By method 2 or 4, what each of those affected has to reload after an activation of `j`; an
-    /// access comes last.
+    /// By method 2 or 4, what each of those affected has to reload after an activation of `j`; in the
+    /// usual order an access comes last.
     pub fn values(&self, method: u64, i: usize, j: usize, blocker: &Blocker) -> Vec<usize> {
         let affected = self.affected(method, i, j, blocker);
-        let values = affected.users().map(|user| self.value(method, user, j));
-        values.collect()
+        let users = self.orders.largest.iter().filter(|user| affected.has(user));
+        users.map(|user| self.value(method, *user, j)).collect()
     }
 
     fn value(&self, method: u64, user: usize, j: usize) -> usize {
@@ -171,16 +179,18 @@ pub fn tells_values(method: u64) -> bool {
 }
 
 /// The sets useful to each user, in the order of their numbers.
-fn all_useful(table: &Table) -> impl Iterator<Item = &Vec<usize>> {
+fn all_useful(table: &Table) -> Vec<&Vec<usize>> {
     let of_tasks = table.tasks.iter().map(|task: &Task| &task.useful);
-    of_tasks.chain(table.accesses.iter().map(|access| &access.useful))
+    let of_accesses = table.accesses.iter().map(|access| &access.useful);
+    of_tasks.chain(of_accesses).collect()
 }
 
-fn users<'a>(sets: usize, of_each: impl Iterator<Item = &'a Vec<usize>>) -> Vec<Vec<usize>> {
+/// For each cache set its users, in the order given, of which each has the sets in its place.
+fn users(sets: usize, order: &[usize], of_each: &[&Vec<usize>]) -> Vec<Vec<usize>> {
     let mut users = vec![Vec::new(); sets];
-    for (user, members) in of_each.enumerate() {
-        for set in members {
-            users[*set].push(user);
+    for user in order {
+        for set in of_each[*user] {
+            users[*set].push(*user);
         }
     }
     users

@@ -1,5 +1,7 @@
 //! The errors that look reasonable.
 
+use super::Sum;
+
 /// The model with one of them built in has to be told apart from the library.
 #[derive(Clone, Copy, Debug, PartialEq, Eq)]
 pub enum Error {
@@ -152,6 +154,14 @@ pub enum Error {
     ReadsBeforeMethod,
     /// 72: 14 is given, before all else, where the text itself would not fit.
     LooksForRoomOfText,
+    /// 73: a worker starts each search from the answer that its last table had there.
+    HandsAnswersOn,
+    /// 74 to 77: of the members of a sum one is taken twice and another one not at all.
+    TakesOneTwice(Sum),
+    /// 78 to 81: a member of a sum is left out.
+    LeavesOneOut(Sum),
+    /// 82: a worker leaves the end of what it printed last behind a shorter text.
+    LeavesLastText,
 }
 
 /// What of the model an error is built into.
@@ -162,11 +172,15 @@ pub enum Part {
     Explaining,
     Writing,
     Growing,
+    /// Taking the members of a sum in any order.
+    Summing,
+    /// Having one table after another.
+    Working,
 }
 
-use Part::{Answering, Explaining, Growing, Reading, Writing};
+use Part::{Answering, Explaining, Growing, Reading, Summing, Working, Writing};
 
-const ERRORS: [(&str, Error, Part); 73] = [
+const ERRORS: [(&str, Error, Part); 83] = [
     ("1", Error::StartsFromGuess, Answering),
     ("2", Error::JudgesAtLimit, Answering),
     ("3", Error::CombinesPerPair, Answering),
@@ -240,6 +254,16 @@ const ERRORS: [(&str, Error, Part); 73] = [
     ("70", Error::WritesScaledByNone, Growing),
     ("71", Error::ReadsBeforeMethod, Growing),
     ("72", Error::LooksForRoomOfText, Growing),
+    ("73", Error::HandsAnswersOn, Working),
+    ("74", Error::TakesOneTwice(Sum::Demand), Summing),
+    ("75", Error::TakesOneTwice(Sum::UsefulUnion), Summing),
+    ("76", Error::TakesOneTwice(Sum::EvictingUnion), Summing),
+    ("77", Error::TakesOneTwice(Sum::Largest), Summing),
+    ("78", Error::LeavesOneOut(Sum::Demand), Summing),
+    ("79", Error::LeavesOneOut(Sum::UsefulUnion), Summing),
+    ("80", Error::LeavesOneOut(Sum::EvictingUnion), Summing),
+    ("81", Error::LeavesOneOut(Sum::Largest), Summing),
+    ("82", Error::LeavesLastText, Working),
 ];
 
 impl Error {

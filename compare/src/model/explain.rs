@@ -157,7 +157,7 @@ impl<'a> Explainer<'a> {
 
     fn equation(&self, method: u64, i: usize, blocker: &Blocker) -> Equation {
         let count = |j| self.reloads.count(method, i, j, blocker);
-        equation(self.table, i, blocker, &count, self.error)
+        equation(self.table, i, 0..i, blocker, &count, self.error)
     }
 
     fn taken(&self, method: u64, i: usize, blocker: &Blocker, figure: u64) -> Vec<Interference> {

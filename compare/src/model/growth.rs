@@ -161,7 +161,7 @@ impl<'a> Growing<'a> {
         let mut cases = blockers.iter().zip(&self.counts[i]);
         cases.all(|(blocker, counts)| {
             let count = |j: usize| counts[method as usize][j];
-            let equation = equation(scaled, i, blocker, &count, self.error);
+            let equation = equation(scaled, i, 0..i, blocker, &count, self.error);
             let response = equation.least_response(task.deadline - task.jitter);
             response.is_some()
         })

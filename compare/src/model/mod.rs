@@ -4,29 +4,37 @@
 //! unions are asked member by member, the text is taken apart by the standard library, a response
 //! is found by trying every number where the limit is small, each access that may block a task has an
 //! equation of its own, whether a text gives a table value is found by reading what the value spells,
-//! and a growth by reading the table of every k.
+//! and a growth by reading the table of every k. The members of a sum or of a union may be taken in any
+//! order.
 
 mod blocking;
 mod costs;
 mod error;
 mod explain;
 mod growth;
+mod order;
 mod read;
 mod report;
 mod response;
 pub mod value;
+mod worker;
 mod write;
 
 pub use costs::METHODS;
 pub use error::{Error, Part};
 pub use explain::{Case, Explanation, Interference, FIGURE_MOST};
 pub use growth::{Growing, Growths, GROWTH_MOST};
+pub use order::Sum;
 pub use read::{read, Access, Table, Task, ACCESSES_MOST, TASKS_MOST, TEXT_MOST};
 pub use report::{analyse, Analysis, Row};
+pub use worker::Worker;
 pub use write::Writing;
 
+use crate::random::Random;
 use explain::Explainer;
+use order::Orders;
 use read::read_with;
+use report::analyse_in;
 use value::Value;
 
 /// Why something was not given: the refusal's number and the line told.
@@ -57,8 +65,24 @@ pub struct Outcome {
 
 impl Outcome {
     pub fn of(text: &[u8], error: Option<Error>) -> Outcome {
+        Outcome::answered(text, error, |table| analyse(table, error))
+    }
+
+    /// The same, with the members of every sum, union and largest value of its equations in any order.
+    pub fn in_any_order(text: &[u8], random: &mut Random, error: Option<Error>) -> Outcome {
+        Outcome::answered(text, error, |table| {
+            let orders = Orders::shuffled(table, random, error);
+            analyse_in(table, orders, error)
+        })
+    }
+
+    fn answered(
+        text: &[u8],
+        error: Option<Error>,
+        analyse: impl FnOnce(&Table) -> Analysis,
+    ) -> Outcome {
         let accepted = read_with(text, error).map(|table| {
-            let analysis = analyse(&table, error);
+            let analysis = analyse(&table);
             (table, analysis)
         });
         let printed = match &accepted {

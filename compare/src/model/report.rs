@@ -2,6 +2,7 @@
 
 use super::blocking::{blockers, worst, Blocker};
 use super::costs::Reloads;
+use super::order::Orders;
 use super::response::{Equation, Load};
 use super::{Error, Table, METHODS};
 
@@ -9,6 +10,7 @@ pub struct Analysis {
     pub rows: Vec<Row>,
 }
 
+#[derive(Clone)]
 pub struct Row {
     pub name: String,
     /// D - J.
@@ -18,14 +20,30 @@ pub struct Row {
 }
 
 pub fn analyse(table: &Table, error: Option<Error>) -> Analysis {
-    let reloads = Reloads::new(table, error);
-    let rows = (0..table.tasks.len()).map(|i| row(table, &reloads, i, error));
+    analyse_in(table, Orders::usual(table), error)
+}
+
+/// The same, with the members of every sum in some order.
+pub fn analyse_in(table: &Table, orders: Orders, error: Option<Error>) -> Analysis {
+    analysis(&Reloads::in_orders(table, orders, error), &[], error)
+}
+
+/// The same after another table. Of that there is nothing, unless an error hands its answers on: each
+/// search then starts from the one at its place.
+pub fn analyse_after(table: &Table, before: &[Row], error: Option<Error>) -> Analysis {
+    analysis(&Reloads::new(table, error), before, error)
+}
+
+fn analysis(reloads: &Reloads, before: &[Row], error: Option<Error>) -> Analysis {
+    let positions = 0..reloads.table.tasks.len();
+    let rows = positions.map(|i| row(reloads, i, before.get(i), error));
     Analysis {
         rows: rows.collect(),
     }
 }
 
-fn row(table: &Table, reloads: &Reloads, i: usize, error: Option<Error>) -> Row {
+fn row(reloads: &Reloads, i: usize, before: Option<&Row>, error: Option<Error>) -> Row {
+    let table = reloads.table;
     let task = &table.tasks[i];
     let limit = task.deadline - task.jitter;
     let tested = match error {
@@ -33,12 +51,19 @@ fn row(table: &Table, reloads: &Reloads, i: usize, error: Option<Error>) -> Row 
         _ => limit,
     };
     let blockers = blockers(table, i, error);
-    let response = |blocker: &Blocker, count: &dyn Fn(usize) -> usize| {
-        let equation = equation(table, i, blocker, count, error);
-        equation.least_response(tested)
+    let equation = |blocker: &Blocker, count: &dyn Fn(usize) -> usize| {
+        let above = reloads.orders.above(i);
+        equation(table, i, above, blocker, count, error)
     };
     let of_each = |method| -> Vec<Option<u64>> {
-        let by = |blocker| response(blocker, &|j| reloads.count(method, i, j, blocker));
+        let start = before.and_then(|row| row.answers[method as usize]);
+        let by = |blocker| {
+            let equation = equation(blocker, &|j| reloads.count(method, i, j, blocker));
+            match start {
+                Some(start) => equation.response_from(start, tested),
+                None => equation.least_response(tested),
+            }
+        };
         blockers.iter().map(by).collect()
     };
     let by = |method| worst(of_each(method), error);
@@ -47,7 +72,8 @@ fn row(table: &Table, reloads: &Reloads, i: usize, error: Option<Error>) -> Row 
         Some(Error::CombinesPerPair) => {
             let smaller = |blocker| {
                 let count = |method, j| reloads.count(method, i, j, blocker);
-                response(blocker, &|j| count(3, j).min(count(4, j)))
+                let equation = equation(blocker, &|j| count(3, j).min(count(4, j)));
+                equation.least_response(tested)
             };
             worst(blockers.iter().map(smaller).collect(), error)
         }
@@ -67,18 +93,22 @@ fn row(table: &Table, reloads: &Reloads, i: usize, error: Option<Error>) -> Row 
     }
 }
 
-/// The equation of the task at `i` while one thing blocks it.
+/// The equation of the task at `i` while one thing blocks it, with the terms of the tasks `above` it.
 pub fn equation(
     table: &Table,
     i: usize,
+    above: impl Iterator<Item = usize>,
     blocker: &Blocker,
     count: &dyn Fn(usize) -> usize,
     error: Option<Error>,
 ) -> Equation {
-    let loads = table.tasks[..i].iter().enumerate().map(|(j, above)| Load {
-        each: above.execution + table.reload_time * count(j) as u64,
-        period: above.period,
-        jitter: above.jitter,
+    let loads = above.map(|j| {
+        let above = &table.tasks[j];
+        Load {
+            each: above.execution + table.reload_time * count(j) as u64,
+            period: above.period,
+            jitter: above.jitter,
+        }
     });
     Equation {
         own: table.tasks[i].execution + blocker.length,

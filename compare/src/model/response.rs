@@ -103,8 +103,16 @@ impl Equation {
         found.expect("a short search")
     }
 
+    /// By an error, the search from an answer of another table, where that is above the usual start and
+    /// not past the limit.
+    pub fn response_from(&self, earlier: u64, limit: u64) -> Option<u64> {
+        let start = Some(earlier).filter(|start| (self.own..=limit).contains(start));
+        let found = start.and_then(|start| self.climb(start, limit, TURNS_FIRST));
+        found.unwrap_or_else(|| self.least_response(limit))
+    }
+
     /// The search upwards from a number that no answer is below: its result, or nothing if that
-    /// takes too many turns.
+    /// takes too many turns. An error lets it start elsewhere, so that it may end at another solution.
     fn climb(&self, start: u64, limit: u64, turns: u64) -> Option<Option<u64>> {
         let mut response = start;
         for _ in 0..turns {
@@ -120,17 +128,8 @@ impl Equation {
     }
 
     fn guessed(&self, limit: u64) -> Option<u64> {
-        let mut response = (self.own + limit + 1) / 2;
-        for _ in 0..TRIED_MOST {
-            if response > limit {
-                return None;
-            }
-            match self.demand(response) {
-                demand if demand == response => return Some(response),
-                demand => response = demand,
-            }
-        }
-        None
+        let guess = (self.own + limit + 1) / 2;
+        self.climb(guess, limit, TRIED_MOST).flatten()
     }
 }
 

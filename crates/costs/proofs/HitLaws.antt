@@ -36,7 +36,7 @@ larger-assoc a b c =
     (λ l. larger-by (λ h. largerOf a c ≡ largerOf a h) b c (λ m. refl) (λ m. larger-first a c (omega arith) ∙ sym (larger-first a b l)))
 
 -- its count is the larger of the two
-larger-count : (a b : Hit) → largerOf a b .reloads .0 ≡ max (a .reloads .0) (b .reloads .0)
+pub larger-count : (a b : Hit) → largerOf a b .reloads .0 ≡ max (a .reloads .0) (b .reloads .0)
 larger-count a b = larger-by (λ h. h .reloads .0 ≡ max (a .reloads .0) (b .reloads .0)) a b (λ l. omega arith) (λ l. omega arith)
 
 pub larger-most : (a b : Hit) {most : ℕ} → a .reloads .0 ≤ most → b .reloads .0 ≤ most → largerOf a b .reloads .0 ≤ most
