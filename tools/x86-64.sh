@@ -1,12 +1,14 @@
+# shellcheck shell=sh
 # Sourced by the scripts that build or run x86-64 programs: the proved library is for x86-64 alone. On an x86-64 machine the machine's own
 # tools serve; on another one Debian's cross tools are installed where they are missing, and programs run under an emulator.
-# It sets: rustc and rust_flags, cc and cc_flags, emulator (empty on x86-64).
+# It sets: rustc and rust_flags, cc and cc_flags, emulator (empty on x86-64). A script that must not end with 2 where something is missing
+# sets bad.
 
 x86_target=x86_64-unknown-linux-gnu
 
 x86_die() {
     printf '%s: %s\n' "$(basename "$0")" "$*" >&2
-    exit 2
+    exit "${bad:-2}"
 }
 
 # Debian's packages, quietly.
