@@ -15,6 +15,7 @@ import subprocess
 import sys
 import tempfile
 import termios
+import threading
 
 ROOT = os.path.dirname(os.path.dirname(os.path.abspath(__file__)))
 COMMAND = [os.path.abspath(part) if os.path.exists(part) else part for part in sys.argv[1:]] or [os.path.join(ROOT, "bin", "crpd")]
@@ -207,12 +208,21 @@ def mounts(*command):
     must(done.returncode == 0, "a small disk is needed, which root alone may mount: %s: %s", " ".join(command), said)
 
 
+INSTALLING = threading.Lock()  # for cases that run at the same time
+
+
 def installed(program, package):
     """A program of one of Debian's packages, which is installed where it is missing."""
-    if not shutil.which(program):
-        print("installing %s" % package, file=sys.stderr)
-        quiet = {"stdin": subprocess.DEVNULL, "stdout": subprocess.PIPE, "stderr": subprocess.STDOUT}
-        for step in ["update", "-qq"], ["install", "-y", "-qq", "--no-install-recommends", package]:
-            done = subprocess.run(["apt-get", *step], env={**os.environ, "DEBIAN_FRONTEND": "noninteractive"}, **quiet)
-            must(done.returncode == 0, "cannot install %s: %s", package, done.stdout.decode(errors="replace")[-500:])
+    with INSTALLING:
+        if not shutil.which(program):
+            install(package)
     return program
+
+
+def install(package):
+    print("installing %s" % package, file=sys.stderr)
+    quiet = {"stdin": subprocess.DEVNULL, "stdout": subprocess.PIPE, "stderr": subprocess.STDOUT}
+    for step in ["update", "-qq"], ["install", "-y", "-qq", "--no-install-recommends", package]:
+        command = ["apt-get", "-o", "DPkg::Lock::Timeout=300", *step]  # another process may be installing, too
+        done = subprocess.run(command, env={**os.environ, "DEBIAN_FRONTEND": "noninteractive"}, **quiet)
+        must(done.returncode == 0, "cannot install %s: %s", package, done.stdout.decode(errors="replace")[-500:])
