@@ -37,8 +37,7 @@ pub fn table(report: &Report) -> String {
 
 /// Colours are for a terminal alone, and not for those who do not want them.
 fn has_colours() -> bool {
-    let set = |name: &str| std::env::var_os(name).unwrap_or_default();
-    system::is_terminal(1) && set("NO_COLOR").is_empty() && set("TERM") != "dumb"
+    system::is_lively(1) && std::env::var_os("NO_COLOR").unwrap_or_default().is_empty()
 }
 
 fn headings() -> Vec<Cell> {

@@ -16,14 +16,10 @@ extern "C" {
 
 const F_GETFD: c_int = 1;
 
-/// Whether a descriptor is a terminal.
-pub fn is_terminal(descriptor: c_int) -> bool {
-    unsafe { isatty(descriptor) == 1 }
-}
-
-/// Whether a descriptor is a terminal that is more than paper.
+/// Whether a descriptor is a terminal that is more than paper: it can be written over, and has colours.
 pub fn is_lively(descriptor: c_int) -> bool {
-    is_terminal(descriptor) && std::env::var_os("TERM").map_or(true, |kind| kind != "dumb")
+    let is_terminal = unsafe { isatty(descriptor) == 1 };
+    is_terminal && std::env::var_os("TERM").map_or(true, |kind| kind != "dumb")
 }
 
 static INPUT_OPEN: AtomicBool = AtomicBool::new(true);
