@@ -11,7 +11,7 @@ use Rattle.faults.proofs.Chain.{fine-row}
 use Rattle.faults.proofs.LineLaws.{both, lies}
 use Rattle.faults.proofs.Small.{first_small}
 use Rattle.access_lines.specs.declared.AccessLine.{AccessLine}
-use Rattle.access_lines.specs.AccessLines.{accessRows, accessFault}
+use Rattle.access_lines.specs.AccessLines.{access_rows, access_fault}
 
 pub record AccessHolds (above count : ℕ) (said : AccessLine) : Type 0 where
   pub room : above < 32
@@ -23,8 +23,8 @@ pub record AccessHolds (above count : ℕ) (said : AccessLine) : Type 0 where
   pub of-task : said.access.task < count
   pub under : said.access.ceiling ≤ said.access.task
 
-pub access-holds : (above count : ℕ) (said : AccessLine) → accessFault above count said ≡ Fine → AccessHolds above count said
-unfolding accessFault
+pub access-holds : (above count : ℕ) (said : AccessLine) → access_fault above count said ≡ Fine → AccessHolds above count said
+unfolding access_fault
 access-holds above count said e1 =
     let e2 = (fine-row _ _ _ e1).1 in
     let e3 = (fine-row _ _ _ e2).1 in
@@ -44,8 +44,8 @@ access-holds above count said e1 =
       under = leb-true _ _ p.1;
     }
 
-pub access-small : (above count : ℕ) (said : AccessLine) (n : ℕ) → accessFault above count said ≡ Fault n → n ≤ 17
-unfolding accessFault
+pub access-small : (above count : ℕ) (said : AccessLine) (n : ℕ) → access_fault above count said ≡ Fault n → n ≤ 17
+unfolding access_fault
 access-small above count said =
-    first_small (accessRows above count said)
+    first_small (access_rows above count said)
     (omega arith, (omega arith, (omega arith, (omega arith, (omega arith, (omega arith, (omega arith, tt)))))))

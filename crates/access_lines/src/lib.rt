@@ -1,7 +1,7 @@
 // What an access line says, and the number of its first refusal.
 // specs/AccessLines.antt has both.
 ghost use Rattle.std.specs.Prelude.{◌≡◌, ◌≤◌, take};
-ghost use Rattle.access_lines.specs.AccessLines.{accessSaid, accessFault};
+ghost use Rattle.access_lines.specs.AccessLines.{access_said, access_fault};
 
 use accesses::Access;
 use faults::Finding;
@@ -22,7 +22,7 @@ pub struct AccessLine {
 // What an access line says below `count` tasks, of which `names` has the names. It has five fields where it goes on past the fourth and not past the fifth.
 pub fn access_said(sets: u64, count: usize, names: [Name; 32], line: &[u8]) -> AccessLine
     requires { count ≤ 32 }
-    ensures { result ≡ accessSaid sets (take count names) line.now }
+    ensures { result ≡ access_said sets (take count names) line.now }
 {
     let letter = text::before(line, b'\t');
     let from_task = text::past(line, b'\t', letter);
@@ -55,7 +55,7 @@ pub fn access_said(sets: u64, count: usize, names: [Name; 32], line: &[u8]) -> A
 
 // The first refusal of an access line below `above` others, in a table of `count` tasks.
 pub fn access_fault(above: usize, count: usize, said: AccessLine) -> Finding
-    ensures { result ≡ accessFault above count said }
+    ensures { result ≡ access_fault above count said }
 {
     let access = said.access;
     if 32 <= above {

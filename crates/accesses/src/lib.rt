@@ -1,6 +1,6 @@
 // Accesses to shared devices, and whom they may block. specs/Accesses.antt says who that is.
 ghost use Rattle.std.specs.Prelude.{◌≡◌, ◌≤◌, take};
-ghost use Rattle.accesses.specs.Accesses.{mayBlock, blocking, or_else, plainAccess, Listed};
+ghost use Rattle.accesses.specs.Accesses.{may_block, blocking, or_else, plain_access, Listed};
 
 use sets::CacheSet;
 use tasks::Task;
@@ -18,7 +18,7 @@ pub struct Access {
 impl Access {
     // Whether the task at i may have to wait for it: its own task is below i, and its ceiling is i or above.
     pub fn may_block(self, i: usize) -> bool
-        ensures { result ≡ mayBlock i self }
+        ensures { result ≡ may_block i self }
     {
         (i < self.task) & (self.ceiling <= i)
     }
@@ -26,7 +26,7 @@ impl Access {
 
 // B of a task as an access.
 pub fn plain_access(task: Task) -> Access
-    ensures { result ≡ plainAccess task }
+    ensures { result ≡ plain_access task }
 {
     let lasts = task.blocking;
     Access {

@@ -10,7 +10,7 @@ use Rattle.table.specs.declared.Table.{Table}
 use Rattle.costs.specs.declared.Charge.{Charge}
 use Rattle.costs.specs.declared.Charge.TheVariants.{Victim}
 use Rattle.costs.specs.Gather.{hit}
-use Rattle.costs.specs.Costs.{noVictim}
+use Rattle.costs.specs.Costs.{no_victim}
 
 abbrev ticks : ℕ → Ticks
 ticks n = record { 0 = n }
@@ -37,8 +37,8 @@ abbrev access : ℕ → ℕ → ℕ → ℕ → Access
 access k h l u = record { task = k; ceiling = h; lasts = ticks l; ucb = one_word u }
 
 -- sets, BRT, tasks, accesses
-abbrev tableWith : ℕ → ℕ → List Task → List Access → Table
-tableWith sets brt ts accesses = record {
+abbrev table_with : ℕ → ℕ → List Task → List Access → Table
+table_with sets brt ts accesses = record {
   sets = sets;
   brt = ticks brt;
   count = length ts;
@@ -49,7 +49,7 @@ tableWith sets brt ts accesses = record {
 
 -- without accesses
 abbrev table_of : ℕ → ℕ → List Task → Table
-table_of sets brt ts = tableWith sets brt ts []
+table_of sets brt ts = table_with sets brt ts []
 
 -- tables A, B and M, with D of c
 abbrev A : ℕ → Table
@@ -67,26 +67,26 @@ P ja d j b = table_of 4 0 (task 2 5 5 ja 0 0 0 ∷ task 3 8 d j b 0 0 ∷ [])
 
 -- table S: an access of c, whose ceiling is b, is pre-empted by a, which evicts what the access uses. Its length and its UCB
 abbrev S : ℕ → ℕ → Table
-S l u = tableWith 4 1 (task 1 20 20 0 0 0x0 0xf ∷ task 2 40 40 0 0 0x0 0x0 ∷ task 2 60 60 0 0 0x0 0x0 ∷ []) (access 2 1 l u ∷ [])
+S l u = table_with 4 1 (task 1 20 20 0 0 0x0 0xf ∷ task 2 40 40 0 0 0x0 0x0 ∷ task 2 60 60 0 0 0x0 0x0 ∷ []) (access 2 1 l u ∷ [])
 
 -- the same with two accesses
 abbrev S2 : Table
-S2 = tableWith 4 1 (task 1 20 20 0 0 0x0 0xf ∷ task 2 40 40 0 0 0x0 0x0 ∷ task 2 60 60 0 0 0x0 0x0 ∷ []) (access 2 1 4 0x0 ∷ access 2 1 3 0xf ∷ [])
+S2 = table_with 4 1 (task 1 20 20 0 0 0x0 0xf ∷ task 2 40 40 0 0 0x0 0x0 ∷ task 2 60 60 0 0 0x0 0x0 ∷ []) (access 2 1 4 0x0 ∷ access 2 1 3 0xf ∷ [])
 
 -- table P with a task more, which blocks b for so long by an access without marks
 abbrev PA : ℕ → Table
-PA l = tableWith 4 0 (task 2 5 5 0 0 0 0 ∷ task 3 8 8 0 0 0 0 ∷ task 1 100 100 0 0 0 0 ∷ []) (access 2 1 l 0x0 ∷ [])
+PA l = table_with 4 0 (task 2 5 5 0 0 0 0 ∷ task 3 8 8 0 0 0 0 ∷ task 1 100 100 0 0 0 0 ∷ []) (access 2 1 l 0x0 ∷ [])
 
 -- four tasks: an access of d with the ceiling at h may block c; a and b evict all that it uses
 abbrev H : ℕ → Table
 H h =
-    tableWith 4 1 (task 1 20 20 0 0 0x0 0xf ∷ task 1 40 40 0 0 0x0 0xf ∷ task 2 60 60 0 0 0x0 0xf ∷ task 2 80 80 0 0 0x0 0xf ∷ [])
+    table_with 4 1 (task 1 20 20 0 0 0x0 0xf ∷ task 1 40 40 0 0 0x0 0xf ∷ task 2 60 60 0 0 0x0 0xf ∷ task 2 80 80 0 0 0x0 0xf ∷ [])
     (access 3 h 3 0x7 ∷ [])
 
 -- table W, with D of c: UCB-Union is latest while the first access of d blocks c, and ECB-Union while the second does
 abbrev W : ℕ → Table
 W d =
-    tableWith 8 1 (task 1 100 100 0 0 0x00 0xf0 ∷ task 2 200 200 0 0 0x00 0x0f ∷ task 3 300 d 0 0 0x03 0x00 ∷ task 4 400 400 0 0 0x00 0x00 ∷ [])
+    table_with 8 1 (task 1 100 100 0 0 0x00 0xf0 ∷ task 2 200 200 0 0 0x00 0x0f ∷ task 3 300 d 0 0 0x03 0x00 ∷ task 4 400 400 0 0 0x00 0x00 ∷ [])
     (access 3 2 8 0x0c ∷ access 3 2 5 0x70 ∷ [])
 
 -- the answer for the task at `position` of `table` under `method` is `answer`
@@ -99,26 +99,26 @@ pub record Figure : Type 0 where
 abbrev answers : Table → ℕ → ℕ → ℕ → Figure
 answers table m i r = record { table = table; method = m; position = i; answer = Within (ticks r) }
 
-abbrev noAnswer : Table → ℕ → ℕ → Figure
-noAnswer table m i = record { table = table; method = m; position = i; answer = Unschedulable }
+abbrev no_answer : Table → ℕ → ℕ → Figure
+no_answer table m i = record { table = table; method = m; position = i; answer = Unschedulable }
 
 abbrev pub figures : List Figure
 figures =
     answers (A 60) 3 2 11 ∷ answers (A 60) 4 2 9 ∷ answers (A 60) 5 2 9
-    ∷ answers (A 9) 5 2 9 ∷ noAnswer (A 8) 5 2
+    ∷ answers (A 9) 5 2 9 ∷ no_answer (A 8) 5 2
     ∷ answers (B 60) 3 2 9 ∷ answers (B 60) 4 2 11 ∷ answers (B 60) 5 2 9
-    ∷ noAnswer (B 10) 4 2 ∷ answers (B 10) 5 2 9
+    ∷ no_answer (B 10) 4 2 ∷ answers (B 10) 5 2 9
     ∷ answers M 3 2 11 ∷ answers M 4 2 11 ∷ answers M 5 2 11
     ∷ answers (P 0 8 0 0) 0 1 5 ∷ answers (P 0 6 0 0) 0 1 5
-    ∷ answers (P 1 8 0 0) 0 1 7 ∷ noAnswer (P 1 7 1 0) 0 1
+    ∷ answers (P 1 8 0 0) 0 1 7 ∷ no_answer (P 1 7 1 0) 0 1
     ∷ answers (P 0 8 0 1) 0 1 8
-    ∷ noAnswer (P 0 8 8 0) 0 1
+    ∷ no_answer (P 0 8 8 0) 0 1
     ∷ answers (S 3 0x3) 0 1 6 ∷ answers (S 3 0x3) 1 1 10 ∷ answers (S 3 0x3) 2 1 8 ∷ answers (S 3 0x3) 3 1 8 ∷ answers (S 3 0x3) 4 1 8 ∷ answers (S 3 0x3) 5 1 8
     ∷ answers (S 3 0x0) 2 1 6 ∷ answers (S 3 0x0) 3 1 6 ∷ answers (S 3 0x0) 4 1 6 ∷ answers (S 3 0x3) 5 0 1
     ∷ answers S2 0 1 7 ∷ answers S2 3 1 10 ∷ answers S2 4 1 10
     ∷ answers (PA 1) 0 1 8
     ∷ answers (H 0) 4 2 7 ∷ answers (H 1) 4 2 10 ∷ answers (H 2) 4 2 13
-    ∷ answers (W 300) 3 2 18 ∷ answers (W 300) 4 2 17 ∷ answers (W 300) 5 2 17 ∷ noAnswer (W 16) 5 2
+    ∷ answers (W 300) 3 2 18 ∷ answers (W 300) 4 2 17 ∷ answers (W 300) 5 2 17 ∷ no_answer (W 16) 5 2
     ∷ []
 
 -- ---- whom the pre-emptions hit
@@ -144,15 +144,15 @@ abbrev hits : Table → ℕ → ℕ → ℕ → ℕ → ℕ → ChargeFigure
 hits table m i j n k = record { table = table; method = m; position = i; preempting = j; charge = Victim (hit n k) }
 
 -- n reloads, not those of a single task
-abbrev withoutVictim : Table → ℕ → ℕ → ℕ → ℕ → ChargeFigure
-withoutVictim table m i j n = record { table = table; method = m; position = i; preempting = j; charge = noVictim n }
+abbrev without_victim : Table → ℕ → ℕ → ℕ → ℕ → ChargeFigure
+without_victim table m i j n = record { table = table; method = m; position = i; preempting = j; charge = no_victim n }
 
-abbrev pub chargeFigures : List ChargeFigure
-chargeFigures =
+abbrev pub charge_figures : List ChargeFigure
+charge_figures =
     hits (A 60) 2 2 0 2 1 ∷ hits (A 60) 2 2 1 2 2 ∷ hits (A 60) 4 2 0 2 1 ∷ hits (A 60) 4 2 1 2 2
     ∷ hits (B 60) 2 2 0 4 2 ∷ hits (B 60) 2 2 1 4 2 ∷ hits (B 60) 4 2 0 2 2 ∷ hits (B 60) 4 2 1 4 2
     ∷ hits M 2 2 0 4 2 ∷ hits M 2 2 1 4 2 ∷ hits M 4 2 0 2 1 ∷ hits M 4 2 1 4 2
     ∷ hits Q 2 3 0 2 2 ∷ hits Q 2 3 1 2 2 ∷ hits Q 2 3 2 2 3 ∷ hits Q 4 3 0 2 2
     ∷ hits N 2 2 0 0 1 ∷ hits N 2 2 1 0 2 ∷ hits N 4 2 0 0 1 ∷ hits N 4 2 1 0 2
-    ∷ withoutVictim M 0 2 0 0 ∷ withoutVictim M 1 2 0 4 ∷ withoutVictim M 3 2 0 4
+    ∷ without_victim M 0 2 0 0 ∷ without_victim M 1 2 0 4 ∷ without_victim M 3 2 0 4
     ∷ []

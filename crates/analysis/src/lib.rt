@@ -1,13 +1,13 @@
 // The response of a task under a method. specs/Analysis.antt says what a response is. A table's numbers and sets are put on a board once, and
 // that is lent: a table is long to copy.
 ghost use Rattle.std.specs.Prelude.{◌≡◌, ◌+◌, ◌≤◌, take};
-ghost use Rattle.demand.specs.Demand.{demandOf};
-ghost use Rattle.demand.specs.Terms.{termIn, Handed};
-ghost use Rattle.demand.specs.Least.{leastOf, toldOf};
+ghost use Rattle.demand.specs.Demand.{demand_of};
+ghost use Rattle.demand.specs.Terms.{term_in, Handed};
+ghost use Rattle.demand.specs.Least.{least_of, told_of};
 ghost use Rattle.accesses.specs.Accesses.{Listed};
-ghost use Rattle.board.specs.Board.{limitOn, Lent};
+ghost use Rattle.board.specs.Board.{limit_on, Lent};
 ghost use Rattle.one_row.specs.Row.{Charged};
-ghost use Rattle.analysis.specs.Analysis.{blockersOf, leastOnUnder, latestOn, withCombined, responseOf, Blocks, AllBlock, Answerable};
+ghost use Rattle.analysis.specs.Analysis.{blockers_of, least_on_under, latest_on, with_combined, response_of, Blocks, AllBlock, Answerable};
 
 use accesses::{Access, Blockers};
 use board::{LIMITS, WORKS};
@@ -20,7 +20,7 @@ use units::Ticks;
 // of the weights of those above it; 0 for none.
 fn by_weights(board: &[u64], own: Ticks, weights: &[u64], i: usize, limit: Ticks) -> u64
     requires { Lent board.now (i + 1) × Handed own.0 board.now weights.now i limit.0 }
-    ensures { toldOf result ≡ leastOf (demandOf own.0 (termIn board.now weights.now) i) limit.0 }
+    ensures { told_of result ≡ least_of (demand_of own.0 (term_in board.now weights.now) i) limit.0 }
 {
     let mut counts = [1u64; 32];
     let mut ends = response::first_ends(board, i);
@@ -37,7 +37,7 @@ pub fn least_under(
     access: Access,
 ) -> u64
     requires { (method ≤ 4) × Lent board.now (i + 1) × (limit.0 ≤ 250000000) × Charged board.now method i 0 row.now × Blocks i access }
-    ensures { toldOf result ≡ leastOnUnder board.now access method i limit.0 }
+    ensures { told_of result ≡ least_on_under board.now access method i limit.0 }
 {
     let mut joined = *row;
     blocked_row::join(board, method, i, access, &mut joined);
@@ -49,7 +49,7 @@ pub fn least_under(
 // The latest of these answers over all that may block the task.
 fn latest_within(board: &[u64], method: u64, i: usize, limit: Ticks, blockers: Blockers) -> Response
     requires { (method ≤ 4) × Lent board.now (i + 1) × (limit.0 ≤ 250000000) × AllBlock i blockers }
-    ensures { result ≡ latestOn board.now (take blockers.count blockers.accesses) method i limit.0 }
+    ensures { result ≡ latest_on board.now (take blockers.count blockers.accesses) method i limit.0 }
 {
     let row = one_row::charged(board, method, i);
     let first = blockers.accesses[0];
@@ -66,7 +66,7 @@ fn latest_within(board: &[u64], method: u64, i: usize, limit: Ticks, blockers: B
 // The answer under one of the methods 0 to 5: within the task's limit. Method 5 is the sooner of the answers of 3 and 4.
 fn respond_on(board: &[u64], method: u64, i: usize, blockers: Blockers) -> Response
     requires { (method ≤ 5) × Lent board.now (i + 1) × AllBlock i blockers }
-    ensures { result ≡ withCombined (λ m. latestOn board.now (take blockers.count blockers.accesses) m i (limitOn board.now i)) method }
+    ensures { result ≡ with_combined (λ m. latest_on board.now (take blockers.count blockers.accesses) m i (limit_on board.now i)) method }
 {
     let limit = Ticks(board[LIMITS + i]);
     if method < 5 {
@@ -80,7 +80,7 @@ fn respond_on(board: &[u64], method: u64, i: usize, blockers: Blockers) -> Respo
 // What may block the task at i: the accesses that may, and where none may its B.
 pub fn blockers_at(table: Table, i: usize) -> Blockers
     requires { Answerable 5 table 0 i }
-    ensures { Listed (blockersOf table i) result }
+    ensures { Listed (blockers_of table i) result }
 {
     let task = table.tasks[i];
     accesses::blockers_of(
@@ -94,7 +94,7 @@ pub fn blockers_at(table: Table, i: usize) -> Blockers
 // The response of the task at i under one of the methods 0 to 5.
 pub fn respond(table: Table, method: u64, i: usize) -> Response
     requires { Answerable 5 table method i }
-    ensures { result ≡ responseOf table method i }
+    ensures { result ≡ response_of table method i }
 {
     let mut board = [0u64; board::PLACES];
     board::fill(table, i + 1, &mut board);

@@ -7,23 +7,23 @@ use mathlib.Core.Path.{◌≡◌, refl, sym, ap, ◌∙◌, fun_ext}
 use mathlib.Core.List.{List, map}
 use Rattle.sets.specs.Sets.{Set, ∅, ◌∪◌, ◌∩◌, size}
 use Rattle.sets.proofs.SetLaws.{union_comm, union_assoc, union_self, size-split}
-use Rattle.tasks.specs.Tasks.{limitOf}
+use Rattle.tasks.specs.Tasks.{limit_of}
 use Rattle.accesses.specs.declared.Access.{Access}
-use Rattle.accesses.specs.Accesses.{addedBy}
+use Rattle.accesses.specs.Accesses.{added_by}
 use Rattle.table.specs.declared.Table.{Table}
 use Rattle.table.specs.Tasks.{at}
 use Rattle.demand.specs.Positions.{hp}
-use Rattle.demand.specs.Demand.{Term, termOf, workOf, demandOf}
+use Rattle.demand.specs.Demand.{Term, term_of, work_of, demand_of}
 use Rattle.demand.specs.declared.Response.{Response}
-use Rattle.demand.specs.Least.{leastOf, latestOf}
+use Rattle.demand.specs.Least.{least_of, latest_of}
 use Rattle.demand.proofs.DemandLaws.{demand-same}
-use Rattle.costs.specs.Gather.{aff, unionOf, largestOf, hit, largestAt}
-use Rattle.costs.specs.Costs.{ucbOf, ecbOf, reloadsWith, termUnder}
+use Rattle.costs.specs.Gather.{aff, union_of, largest_of, hit, largest_at}
+use Rattle.costs.specs.Costs.{ucb_of, ecb_of, reloads_with, term_under}
 use Rattle.costs.proofs.HitLaws.{larger-count, largest-count}
-use Rattle.analysis.specs.Analysis.{blockersOf, answer_of, withCombined, responseOf}
+use Rattle.analysis.specs.Analysis.{blockers_of, answer_of, with_combined, response_of}
 use Rattle.any_order.specs.Permutations.{Permutation, EachOnce, Unordered}
 use Rattle.any_order.specs.CacheSets.{SizesAddUp}
-use Rattle.any_order.specs.Equation.{demandOver, reloadsOver, Arrangement, termArranged, demandArranged, answerArranged}
+use Rattle.any_order.specs.Equation.{demand_over, reloads_over, Arrangement, term_arranged, demand_arranged, answer_arranged}
 use Rattle.any_order.proofs.PermutationLaws.{once-permutation, fold-any-order}
 
 -- ---- cache sets. Of what the code returns the same is promised by the functions of src/lib.rt
@@ -49,67 +49,67 @@ pub largest-unordered : Unordered max
 largest-unordered = record { comm = λ a b. omega arith; assoc = λ a b c. omega arith }
 
 -- the demand: over every list that has each of hp(i) exactly once the terms have the same sum
-pub demand-any-order : (own : ℕ) (terms : ℕ → Term) (i : ℕ) (ks : List ℕ) → Permutation ks (hp i) → (r : ℕ) → demandOver own terms ks r ≡ demandOf own terms i r
-unfolding demandOf
-demand-any-order own terms i ks p r = fold-any-order sum-unordered own (λ j. workOf r (terms j)) ks (hp i) p
+pub demand-any-order : (own : ℕ) (terms : ℕ → Term) (i : ℕ) (ks : List ℕ) → Permutation ks (hp i) → (r : ℕ) → demand_over own terms ks r ≡ demand_of own terms i r
+unfolding demand_of
+demand-any-order own terms i ks p r = fold-any-order sum-unordered own (λ j. work_of r (terms j)) ks (hp i) p
 
 -- the same in the words of `EachOnce`
-pub demand-each-once : (own : ℕ) (terms : ℕ → Term) (i : ℕ) (ks : List ℕ) → EachOnce 0 i ks → (r : ℕ) → demandOver own terms ks r ≡ demandOf own terms i r
+pub demand-each-once : (own : ℕ) (terms : ℕ → Term) (i : ℕ) (ks : List ℕ) → EachOnce 0 i ks → (r : ℕ) → demand_over own terms ks r ≡ demand_of own terms i r
 demand-each-once own terms i ks p = demand-any-order own terms i ks (once-permutation 0 i zero-le ks p)
 
 -- a union
-pub union-any-order : (F : ℕ → Set) (ks ls : List ℕ) → Permutation ks ls → unionOf F ks ≡ unionOf F ls
+pub union-any-order : (F : ℕ → Set) (ks ls : List ℕ) → Permutation ks ls → union_of F ks ≡ union_of F ls
 union-any-order F = fold-any-order union-unordered ∅ F
 
 -- the largest value
-pub largest-any-order : (F : ℕ → ℕ) (ks ls : List ℕ) → Permutation ks ls → largestOf F ks ≡ largestOf F ls
+pub largest-any-order : (F : ℕ → ℕ) (ks ls : List ℕ) → Permutation ks ls → largest_of F ks ≡ largest_of F ls
 largest-any-order F = fold-any-order largest-unordered 0 F
 
 -- ---- the equation of a task
 
 -- g(i, j), whatever access adds the set X and whosever it is
 module _ (U E : ℕ → Set) (X : Set) (k i j : ℕ) (affected evicting : List ℕ) (a : Permutation affected (aff i j)) (e : Permutation evicting (hp (j + 1))) where
-  largest-with : (F : ℕ → ℕ) (n : ℕ) → max (largestOf F affected) n ≡ max (largestAt F (aff i j)).reloads.0 n
+  largest-with : (F : ℕ → ℕ) (n : ℕ) → max (largest_of F affected) n ≡ max (largest_at F (aff i j)).reloads.0 n
   largest-with F n = ap (λ (v : ℕ). max v n) (largest-any-order F affected (aff i j) a ∙ sym (largest-count _ F (aff i j)))
 
-  pub reloads-any-order : (m : ℕ) → reloadsOver U E X m j affected evicting ≡ reloadsWith U E X k m i j
-  unfolding reloadsWith
+  pub reloads-any-order : (m : ℕ) → reloads_over U E X m j affected evicting ≡ reloads_with U E X k m i j
+  unfolding reloads_with
   reloads-any-order zero = refl
   reloads-any-order (suc zero) = refl
   reloads-any-order (suc (suc zero)) = largest-with (λ k. size (U k)) (size X) ∙ sym (larger-count _ (hit (size X) k))
   reloads-any-order (suc (suc (suc zero))) = ap (λ (A : Set). size ((A ∪ X) ∩ E j)) (union-any-order U affected (aff i j) a)
   reloads-any-order (suc (suc (suc (suc zero)))) =
-      ap (λ (A : Set). max (largestOf (λ k. size (U k ∩ A)) affected) (size (X ∩ A))) (union-any-order E evicting (hp (j + 1)) e)
-      ∙ largest-with (λ k. size (U k ∩ unionOf E (hp (j + 1)))) (size (X ∩ unionOf E (hp (j + 1))))
-      ∙ sym (larger-count _ (hit (size (X ∩ unionOf E (hp (j + 1)))) k))
+      ap (λ (A : Set). max (largest_of (λ k. size (U k ∩ A)) affected) (size (X ∩ A))) (union-any-order E evicting (hp (j + 1)) e)
+      ∙ largest-with (λ k. size (U k ∩ union_of E (hp (j + 1)))) (size (X ∩ union_of E (hp (j + 1))))
+      ∙ sym (larger-count _ (hit (size (X ∩ union_of E (hp (j + 1)))) k))
   reloads-any-order (suc (suc (suc (suc (suc m))))) = refl
 
 -- the demand of the task at i while an access blocks it
 pub equation-any-order : (table : Table) (a : Access) (m i : ℕ) (arranged : Arrangement i) (r : ℕ)
-    → demandArranged table a m i arranged r ≡ demandOf ((at table i).work.0 + a.lasts.0) (termUnder table a m i) i r
+    → demand_arranged table a m i arranged r ≡ demand_of ((at table i).work.0 + a.lasts.0) (term_under table a m i) i r
 equation-any-order table a m i arranged r =
-    demand-any-order own (termArranged table a m i arranged) i arranged.higher arranged.higher-is r
-    ∙ ap (λ (f : ℕ → ℕ). f r) (demand-same own (termArranged table a m i arranged) (termUnder table a m i) i terms)
+    demand-any-order own (term_arranged table a m i arranged) i arranged.higher arranged.higher-is r
+    ∙ ap (λ (f : ℕ → ℕ). f r) (demand-same own (term_arranged table a m i arranged) (term_under table a m i) i terms)
   where
     own : ℕ
     own = (at table i).work.0 + a.lasts.0
 
-    terms : (j : ℕ) → j < i → termArranged table a m i arranged j ≡ termUnder table a m i j
+    terms : (j : ℕ) → j < i → term_arranged table a m i arranged j ≡ term_under table a m i j
     terms j l =
-        ap (λ (n : ℕ). termOf (at table j).period.0 (at table j).jitter.0 ((at table j).work.0 + table.brt.0 * n))
-        (reloads-any-order (ucbOf table) (ecbOf table) (addedBy a j) a.task i j (arranged.affected j) (arranged.evicting j)
+        ap (λ (n : ℕ). term_of (at table j).period.0 (at table j).jitter.0 ((at table j).work.0 + table.brt.0 * n))
+        (reloads-any-order (ucb_of table) (ecb_of table) (added_by a j) a.task i j (arranged.affected j) (arranged.evicting j)
         (arranged.affected-is j l) (arranged.evicting-is j l) m)
 
 -- its answer under one of the methods 0 to 4
-pub answer-any-order : (table : Table) (m i : ℕ) (arranged : Access → ℕ → Arrangement i) → answerArranged table m i arranged ≡ answer_of table m i
+pub answer-any-order : (table : Table) (m i : ℕ) (arranged : Access → ℕ → Arrangement i) → answer_arranged table m i arranged ≡ answer_of table m i
 unfolding answer_of
 answer-any-order table m i arranged =
-    ap (λ (f : Access → Response). latestOf (map f (blockersOf table i)))
-    (fun_ext (λ a. ap (λ (f : ℕ → ℕ). leastOf f (limitOf (at table i))) (fun_ext (λ r. equation-any-order table a m i (arranged a r) r))))
+    ap (λ (f : Access → Response). latest_of (map f (blockers_of table i)))
+    (fun_ext (λ a. ap (λ (f : ℕ → ℕ). least_of f (limit_of (at table i))) (fun_ext (λ r. equation-any-order table a m i (arranged a r) r))))
 
 -- and its response under any
 pub response-any-order : (table : Table) (m i : ℕ) (arranged : ℕ → Access → ℕ → Arrangement i)
-    → withCombined (λ m. answerArranged table m i (arranged m)) m ≡ responseOf table m i
-unfolding responseOf
+    → with_combined (λ m. answer_arranged table m i (arranged m)) m ≡ response_of table m i
+unfolding response_of
 response-any-order table m i arranged =
-    ap (λ (A : ℕ → Response). withCombined A m) (fun_ext (λ m. answer-any-order table m i (arranged m)))
+    ap (λ (A : ℕ → Response). with_combined A m) (fun_ext (λ m. answer-any-order table m i (arranged m)))

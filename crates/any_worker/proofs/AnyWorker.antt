@@ -17,12 +17,12 @@ use Rattle.table.specs.Reading.{refusal}
 use Rattle.writer.specs.Wrote.{Wrote}
 use Rattle.delivery.specs.declared.Written.{Written}
 use Rattle.delivery.specs.declared.Written.TheVariants.{Length, Refused}
-use Rattle.delivery.specs.Delivery.{written_of, bufferOf}
+use Rattle.delivery.specs.Delivery.{written_of, buffer_of}
 use Rattle.crpd.specs.declared.Reply.{Reply}
 use Rattle.crpd.specs.declared.Factor.{Factor}
-use Rattle.crpd.specs.Operations.{answerTo, growthTo, ruledAnswer, ruledBuffer, TextWritten, TextReported, TextExplained, TableWritten, TextRewritten, TextScaled, printed}
-use Rattle.crpd.specs.Codes.{answerCode, factorCode, writtenCode, TextCoded, DeliveryCoded}
-use Rattle.any_worker.specs.Calls.{startedWith, CallsAgree, SameRoom}
+use Rattle.crpd.specs.Operations.{answer_to, growth_to, ruled_answer, ruled_buffer, TextWritten, TextReported, TextExplained, TableWritten, TextRewritten, TextScaled, printed}
+use Rattle.crpd.specs.Codes.{answer_code, factor_code, written_code, TextCoded, DeliveryCoded}
+use Rattle.any_worker.specs.Calls.{started_with, CallsAgree, SameRoom}
 
 -- ---- a text that is delivered whole or refused
 
@@ -32,17 +32,17 @@ fits-alike n most before before' h (inl e) = ap (leb n) e
 fits-alike n most before before' h (inr (p, q)) = le-leb n (length before) (omega arith) ∙ sym (le-leb n (length before') (omega arith))
 
 delivered-agree : (text before before' : List ℕ) → leb (length text) (length before) ≡ leb (length text) (length before')
-    → CallsAgree (written_of text before) (written_of text before') before (bufferOf text before) before' (bufferOf text before')
+    → CallsAgree (written_of text before) (written_of text before') before (buffer_of text before) before' (buffer_of text before')
 delivered-agree text before before' e = rw e (go (leb (length text) (length before')))
   where
     go : (t : Bool) → CallsAgree (cond t (Length (length text)) (Refused (refusal 14))) (cond t (Length (length text)) (Refused (refusal 14)))
-        before (cond t (startedWith text before) before) before' (cond t (startedWith text before') before')
+        before (cond t (started_with text before) before) before' (cond t (started_with text before') before')
     go true = record { answers = refl; bytes = text; after_is = refl; after'-is = refl }
     go false = record { answers = refl; bytes = []; after_is = refl; after'-is = refl }
 
 -- unless a ruling refuses it
 ruled-agree : (ruled : Ruling) (text before before' : List ℕ) → (ruled ≡ ruling.Accepted → leb (length text) (length before) ≡ leb (length text) (length before'))
-    → CallsAgree (ruledAnswer ruled text before) (ruledAnswer ruled text before') before (ruledBuffer ruled text before) before' (ruledBuffer ruled text before')
+    → CallsAgree (ruled_answer ruled text before) (ruled_answer ruled text before') before (ruled_buffer ruled text before) before' (ruled_buffer ruled text before')
 ruled-agree ruling.Accepted text before before' e = delivered-agree text before before' (e refl)
 ruled-agree (ruling.Refused r) text before before' e = record { answers = refl; bytes = []; after_is = refl; after'-is = refl }
 
@@ -57,17 +57,17 @@ alike : {A : Type 0} {x one other : A} → one ≡ x → other ≡ x → one ≡
 alike p q = p ∙ sym q
 
 module _ (text : List ℕ) (m i : ℕ) where
-  pub answer-calls-agree : {one other : Reply} → one ≡ answerTo text m i → other ≡ answerTo text m i → one ≡ other
+  pub answer-calls-agree : {one other : Reply} → one ≡ answer_to text m i → other ≡ answer_to text m i → one ≡ other
   answer-calls-agree = alike
 
-  pub exported-answer-calls-agree : {one other : ℕ} → one ≡ answerCode (answerTo text m i) → other ≡ answerCode (answerTo text m i) → one ≡ other
+  pub exported-answer-calls-agree : {one other : ℕ} → one ≡ answer_code (answer_to text m i) → other ≡ answer_code (answer_to text m i) → one ≡ other
   exported-answer-calls-agree = alike
 
 module _ (text : List ℕ) (m : ℕ) where
-  pub growth-calls-agree : {one other : Factor} → one ≡ growthTo text m → other ≡ growthTo text m → one ≡ other
+  pub growth-calls-agree : {one other : Factor} → one ≡ growth_to text m → other ≡ growth_to text m → one ≡ other
   growth-calls-agree = alike
 
-  pub exported-growth-calls-agree : {one other : ℕ} → one ≡ factorCode (growthTo text m) → other ≡ factorCode (growthTo text m) → one ≡ other
+  pub exported-growth-calls-agree : {one other : ℕ} → one ≡ factor_code (growth_to text m) → other ≡ factor_code (growth_to text m) → one ≡ other
   exported-growth-calls-agree = alike
 
 -- ---- the operations that write: one law for all texts
@@ -107,7 +107,7 @@ module _ {ruled : Ruling} {text before after before' after' : List ℕ} {one oth
   pub exported-calls-agree : TextCoded ruled text before one after → TextCoded ruled text before' other after' → SameRoom (length text) before before'
       → CallsAgree one other before after before' after'
   exported-calls-agree p q room =
-      told-agree writtenCode (ruled-agree ruled text before before' (λ _. fits-alike (length text) (length text) before before' (omega arith) room))
+      told-agree written_code (ruled-agree ruled text before before' (λ _. fits-alike (length text) (length text) before before' (omega arith) room))
       p.answer-is q.answer-is p.buffer-is q.buffer-is
 
 -- ---- what the program prints: `crpd_print` and `print`
@@ -121,7 +121,7 @@ module _ {text before after before' after' : List ℕ} {one other : ℕ} where
       coded : {before after : List ℕ} {code : ℕ} → DeliveryCoded text before code after → TextCoded ruling.Accepted text before code after
       coded r = record { answer-is = r.answer-is; buffer-is = r.buffer-is }
 
-written-at-start : {text before after : List ℕ} {end : ℕ} → Wrote before 0 text after end → after ≡ startedWith text before
+written-at-start : {text before after : List ℕ} {end : ℕ} → Wrote before 0 text after end → after ≡ started_with text before
 written-at-start {text} {before} {after} {end} w =
     let long : end ≡ length text = w.next ∙ omega arith in
     sym (take-append-drop end after) ∙ ap₂ (λ (xs ys : List ℕ). xs ++ ys) w.front (w.rest ∙ ap (λ (n : ℕ). drop n before) long)

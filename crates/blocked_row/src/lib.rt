@@ -3,11 +3,11 @@
 ghost use Rattle.std.specs.Prelude.{◌≡◌, ◌+◌, ◌≤◌, length};
 ghost use Rattle.sets.specs.Sets.{◌∪◌};
 ghost use Rattle.sets.specs.Words.{members};
-ghost use Rattle.accesses.specs.Accesses.{addedBy};
+ghost use Rattle.accesses.specs.Accesses.{added_by};
 ghost use Rattle.demand.specs.Positions.{front};
 ghost use Rattle.board.specs.Board.{Lent};
 ghost use Rattle.one_row.specs.Row.{Charged};
-ghost use Rattle.blocked_row.specs.BlockedRow.{ChargedUnder, FewReloads, weightIn};
+ghost use Rattle.blocked_row.specs.BlockedRow.{ChargedUnder, FewReloads, weight_in};
 
 use accesses::Access;
 use board::{BRT, ECBS, UCBS, WORKS};
@@ -36,7 +36,7 @@ fn ucb_only(board: &[u64], i: usize, access: Access, row: &mut [u64; ROW])
 
 // These sets, and the access's UCB if its ceiling is below j.
 fn with_access(sets: CacheSet, access: Access, j: usize) -> CacheSet
-    ensures { members result ≡ members sets ∪ addedBy access j }
+    ensures { members result ≡ members sets ∪ added_by access j }
 {
     if j < access.ceiling {
         return sets.union(access.ucb);
@@ -94,7 +94,7 @@ pub fn join(board: &[u64], method: u64, i: usize, access: Access, row: &mut [u64
 // What each task above i asks for at an activation, by the charges in a row.
 pub fn weights(board: &[u64], i: usize, row: &[u64]) -> [u64; 32]
     requires { Lent board.now (i + 1) × FewReloads i row.now }
-    ensures { result ≡ front 0 (weightIn board.now row.now) i }
+    ensures { result ≡ front 0 (weight_in board.now row.now) i }
 {
     let brt = Ticks(board[BRT]);
     let mut all = [0u64; 32];

@@ -4,21 +4,21 @@ use native.Mathlib.Omega.{arith}
 use mathlib.Core.Path.{◌≡◌}
 use mathlib.Core.List.{List}
 use lib.ListN.{length}
-use Rattle.demand.specs.Terms.{periodIn, jitterIn}
-use Rattle.board.specs.Board.{workOn, ownOn, limitOn, brtOn, Lent}
+use Rattle.demand.specs.Terms.{period_in, jitter_in}
+use Rattle.board.specs.Board.{work_on, own_on, limit_on, brt_on, Lent}
 
 -- the numbers of one task
 pub record Ranged (board : List ℕ) (k : ℕ) : Type 0 where
-  pub period : 1 ≤ periodIn board k
-  pub period-most : periodIn board k ≤ 250000000
-  pub jitter : jitterIn board k ≤ periodIn board k
-  pub work-least : 1 ≤ workOn board k
-  pub work : workOn board k ≤ 250000000
-  pub work-own : workOn board k ≤ ownOn board k
-  pub blocked : ownOn board k ≤ workOn board k + 250000000
-  pub own : 1 ≤ ownOn board k
-  pub own-most : ownOn board k ≤ 500000000
-  pub limit : limitOn board k ≤ 250000000
+  pub period : 1 ≤ period_in board k
+  pub period-most : period_in board k ≤ 250000000
+  pub jitter : jitter_in board k ≤ period_in board k
+  pub work-least : 1 ≤ work_on board k
+  pub work : work_on board k ≤ 250000000
+  pub work-own : work_on board k ≤ own_on board k
+  pub blocked : own_on board k ≤ work_on board k + 250000000
+  pub own : 1 ≤ own_on board k
+  pub own-most : own_on board k ≤ 500000000
+  pub limit : limit_on board k ≤ 250000000
 
 module _ {board : List ℕ} {n : ℕ} (lent : Lent board n) where
   pub lent-few : n ≤ 32
@@ -27,7 +27,7 @@ module _ {board : List ℕ} {n : ℕ} (lent : Lent board n) where
   pub lent-long : length board ≡ 417
   lent-long = lent.board-of.long
 
-  pub lent-brt : brtOn board ≤ 100000
+  pub lent-brt : brt_on board ≤ 100000
   lent-brt = rw lent.board-of.brt lent.accepted.brt
 
   pub lent-ranged : (k : ℕ) → k < n → Ranged board k

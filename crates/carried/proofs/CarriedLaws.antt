@@ -15,21 +15,21 @@ use Rattle.sets.proofs.WordLaws.{members-empty}
 use Rattle.sets.proofs.StoredLaws.{stored-long, stored_same, stored_other, stored-beside, held-beside}
 use Rattle.tasks.specs.Tasks.{no_sets}
 use Rattle.accesses.specs.declared.Access.{Access}
-use Rattle.accesses.specs.Accesses.{addedBy}
+use Rattle.accesses.specs.Accesses.{added_by}
 use Rattle.accesses.proofs.AddedLaws.{added-above}
 use Rattle.demand.specs.Positions.{hp}
-use Rattle.board.specs.Board.{workOn, brtOn, ucbOn, ecbOn}
+use Rattle.board.specs.Board.{work_on, brt_on, ucb_on, ecb_on}
 use Rattle.carried.specs.declared.Gathered.{Gathered}
 use Rattle.costs.specs.declared.Hit.{Hit}
 use Rattle.costs.specs.declared.Charge.{Charge}
-use Rattle.costs.specs.Gather.{aff, unionOf, hit, largerOf, largestAt}
-use Rattle.costs.specs.Listed.{hitPut}
-use Rattle.costs.specs.Costs.{noVictim, charges, reloadsIn, reloadsOf, weightOn, chargesWith, reloadsWith, weightOnUnder}
+use Rattle.costs.specs.Gather.{aff, union_of, hit, larger_of, largest_at}
+use Rattle.costs.specs.Listed.{hit_put}
+use Rattle.costs.specs.Costs.{no_victim, charges, reloads_in, reloads_of, weight_on, charges_with, reloads_with, weight_on_under}
 use Rattle.costs.proofs.UnionLaws.{union-none, union-next}
 use Rattle.costs.proofs.HitLaws.{larger-most, hit-none, hit-next, largest-from}
 use Rattle.costs.proofs.ListedLaws.{hit-long, hit_same, hit-beside}
 use Rattle.costs.proofs.CostLaws.{hit-most}
-use Rattle.carried.specs.Carried.{Next, Carried, Small, chargesFor, count_for, aboveOn, allAt, evictingOn, mostAt, shared_at, gatheredOn, gatheredPut}
+use Rattle.carried.specs.Carried.{Next, Carried, Small, charges_for, count_for, above_on, all_at, evicting_on, most_at, shared_at, gathered_on, gathered_put}
 use Rattle.carried.specs.Carried.{Column, Ledger, Passing, Put, InPair}
 use Rattle.carried.proofs.PutLaws.{put_as}
 
@@ -63,79 +63,79 @@ module _ (U : ℕ → Set) (above : Set) (j : ℕ) where
   }
 
   -- the charges of a row below it
-  charged : (E : ℕ → Set) (ecb : Set) (i : ℕ) (g : Gathered) → j < i → Carried U above j (i + 1) g → ecb ≡ E j → above ≡ unionOf E (hp (j + 1))
-      → chargesFor ecb g ≡ charges U E i j
+  charged : (E : ℕ → Set) (ecb : Set) (i : ℕ) (g : Gathered) → j < i → Carried U above j (i + 1) g → ecb ≡ E j → above ≡ union_of E (hp (j + 1))
+      → charges_for ecb g ≡ charges U E i j
   charged E ecb i g h c e f =
       let m = c.most ∙ largest-from (λ k. size (U k)) (j + 1) (i + 1) (omega arith) in
       let a = c.all in
       let s =
       c.shared ∙ largest-from (λ k. size (U k ∩ above)) (j + 1) (i + 1) (omega arith)
-      ∙ ap (λ (A : Set). largestAt (λ k. size (U k ∩ A)) (aff i j)) f in
+      ∙ ap (λ (A : Set). largest_at (λ k. size (U k ∩ A)) (aff i j)) f in
       cc
 
 -- ---- what is gathered for j put in
 
 -- a hit put in after all sets
 module _ (l : List ℕ) (p : ℕ) (h : Hit) where
-  held-before-hit : 256 ≤ p → (q : ℕ) → q < 64 → held_at (hitPut l p h) q ≡ held_at l q
+  held-before-hit : 256 ≤ p → (q : ℕ) → q < 64 → held_at (hit_put l p h) q ≡ held_at l q
   held-before-hit high q few =
       held-beside (set l p h.reloads.0) (32 + p) h.victim q (λ r m z. omega arith)
       ∙ held-beside l p h.reloads.0 q (λ r m z. omega arith)
 
 module _ (l : List ℕ) (j : ℕ) (g : Gathered) (few : j < 32) (long : length l ≡ 416) where
   abbrev most-in : List ℕ
-  most-in = hitPut l (mostAt j) g.most
+  most-in = hit_put l (most_at j) g.most
 
   abbrev both-in : List ℕ
-  both-in = stored_at most-in (allAt j) g.all
+  both-in = stored_at most-in (all_at j) g.all
 
   most-long : length most-in ≡ 416
-  most-long = hit-long l (mostAt j) g.most ∙ long
+  most-long = hit-long l (most_at j) g.most ∙ long
 
   both_long : length both-in ≡ 416
-  both_long = stored-long most-in (allAt j) g.all ∙ most-long
+  both_long = stored-long most-in (all_at j) g.all ∙ most-long
 
-  pub put-long : length (gatheredPut l j g) ≡ 416
+  pub put-long : length (gathered_put l j g) ≡ 416
   put-long = hit-long both-in (shared_at j) g.shared ∙ both_long
 
   -- the last two steps, and then the first, leave a number as it was
-  after-most : (q : ℕ) → 256 ≤ q → (q ≡ shared_at j → ⊥) → (q ≡ 32 + shared_at j → ⊥) → get_or (gatheredPut l j g) q 0 ≡ get_or most-in q 0
-  after-most q h s v = hit-beside both-in (shared_at j) g.shared q s v ∙ stored-beside most-in (allAt j) g.all q (λ r n z. omega arith)
+  after-most : (q : ℕ) → 256 ≤ q → (q ≡ shared_at j → ⊥) → (q ≡ 32 + shared_at j → ⊥) → get_or (gathered_put l j g) q 0 ≡ get_or most-in q 0
+  after-most q h s v = hit-beside both-in (shared_at j) g.shared q s v ∙ stored-beside most-in (all_at j) g.all q (λ r n z. omega arith)
 
-  number-kept : (q : ℕ) → 256 ≤ q → ((n : ℕ) → n < 4 → q ≡ mostAt j + 32 * n → ⊥) → get_or (gatheredPut l j g) q 0 ≡ get_or l q 0
+  number-kept : (q : ℕ) → 256 ≤ q → ((n : ℕ) → n < 4 → q ≡ most_at j + 32 * n → ⊥) → get_or (gathered_put l j g) q 0 ≡ get_or l q 0
   number-kept q h out =
       after-most q h (λ z. out 2 (omega arith) (omega arith)) (λ z. out 3 (omega arith) (omega arith))
-      ∙ hit-beside l (mostAt j) g.most q (λ z. out 0 (omega arith) (omega arith)) (λ z. out 1 (omega arith) (omega arith))
+      ∙ hit-beside l (most_at j) g.most q (λ z. out 0 (omega arith) (omega arith)) (λ z. out 1 (omega arith) (omega arith))
 
-  set-kept : (q : ℕ) → q < 64 → (q ≡ allAt j → ⊥) → held_at (gatheredPut l j g) q ≡ held_at l q
+  set-kept : (q : ℕ) → q < 64 → (q ≡ all_at j → ⊥) → held_at (gathered_put l j g) q ≡ held_at l q
   set-kept q h n =
       held-before-hit both-in (shared_at j) g.shared (omega arith) q h
-      ∙ stored_other most-in (allAt j) g.all q n
-      ∙ held-before-hit l (mostAt j) g.most (omega arith) q h
+      ∙ stored_other most-in (all_at j) g.all q n
+      ∙ held-before-hit l (most_at j) g.most (omega arith) q h
 
   -- it is there
-  put_same : gatheredOn (gatheredPut l j g) j ≡ g
+  put_same : gathered_on (gathered_put l j g) j ≡ g
   put_same =
       rw (
-        after-most (mostAt j) (omega arith) (λ z. omega arith) (λ z. omega arith),
-        after-most (32 + mostAt j) (omega arith) (λ z. omega arith) (λ z. omega arith),
-        hit_same l (mostAt j) g.most (omega arith),
-        held-before-hit both-in (shared_at j) g.shared (omega arith) (allAt j) (omega arith),
-        stored_same most-in (allAt j) g.all (omega (arith, most-long)),
+        after-most (most_at j) (omega arith) (λ z. omega arith) (λ z. omega arith),
+        after-most (32 + most_at j) (omega arith) (λ z. omega arith) (λ z. omega arith),
+        hit_same l (most_at j) g.most (omega arith),
+        held-before-hit both-in (shared_at j) g.shared (omega arith) (all_at j) (omega arith),
+        stored_same most-in (all_at j) g.all (omega (arith, most-long)),
         hit_same both-in (shared_at j) g.shared (omega (arith, both_long)),
       )
 
 -- ---- columns
 
 -- a column that a change leaves alone
-column-kept : {board l to : List ℕ} {k i : ℕ} → held_at to k ≡ held_at l k → held_at to (allAt k) ≡ held_at l (allAt k)
+column-kept : {board l to : List ℕ} {k i : ℕ} → held_at to k ≡ held_at l k → held_at to (all_at k) ≡ held_at l (all_at k)
     → ((q n : ℕ) → q ≡ 256 + k + 32 * n → get_or to q 0 ≡ get_or l q 0) → Column board l k i → Column board to k i
 column-kept {k = k} a s numbers c = record {
   above = ap members a ∙ c.above;
   evicting = numbers (256 + k) 0 (omega arith) ∙ c.evicting;
   gathered = rw (
-    numbers (mostAt k) 1 (omega arith),
-    numbers (32 + mostAt k) 2 (omega arith),
+    numbers (most_at k) 1 (omega arith),
+    numbers (32 + most_at k) 2 (omega arith),
     s,
     numbers (shared_at k) 3 (omega arith),
     numbers (32 + shared_at k) 4 (omega arith),
@@ -144,14 +144,14 @@ column-kept {k = k} a s numbers c = record {
 
 module _ (board l : List ℕ) (j : ℕ) (g : Gathered) (few : j < 32) (long : length l ≡ 416) where
   -- another one
-  column-other : (k i : ℕ) → k < 32 → (k ≡ j → ⊥) → Column board l k i → Column board (gatheredPut l j g) k i
+  column-other : (k i : ℕ) → k < 32 → (k ≡ j → ⊥) → Column board l k i → Column board (gathered_put l j g) k i
   column-other k i h other =
-      column-kept (set-kept l j g few long k (omega arith) (λ z. omega arith)) (set-kept l j g few long (allAt k) (omega arith) (λ z. other (omega arith)))
+      column-kept (set-kept l j g few long k (omega arith) (λ z. omega arith)) (set-kept l j g few long (all_at k) (omega arith) (λ z. other (omega arith)))
       (λ q n e. number-kept l j g few long q (omega arith) (λ m b z. other (omega arith)))
 
   -- and its own
-  column-same : (i : ℕ) → aboveOn l j ≡ unionOf (ecbOn board) (hp (j + 1)) → evictingOn l j ≡ size (ecbOn board j)
-      → Carried (ucbOn board) (unionOf (ecbOn board) (hp (j + 1))) j i g → Column board (gatheredPut l j g) j i
+  column-same : (i : ℕ) → above_on l j ≡ union_of (ecb_on board) (hp (j + 1)) → evicting_on l j ≡ size (ecb_on board j)
+      → Carried (ucb_on board) (union_of (ecb_on board) (hp (j + 1))) j i g → Column board (gathered_put l j g) j i
   column-same i a e c = record {
     above = ap members (set-kept l j g few long j (omega arith) (λ z. omega arith)) ∙ a;
     evicting = number-kept l j g few long (256 + j) (omega arith) (λ n b z. omega arith) ∙ e;
@@ -164,13 +164,13 @@ pub passing-none : {board l : List ℕ} (i : ℕ) → Ledger board i l → Passi
 passing-none i p = record { long = p.long; past = λ k h. absurd (omega arith); ahead = λ k h n. p.columns k n }
 
 pub passing-next : (board l : List ℕ) (i j : ℕ) (g : Gathered) → j < i → i < 32 → Passing board i j l
-    → Carried (ucbOn board) (unionOf (ecbOn board) (hp (j + 1))) j (i + 1) g → Passing board i (j + 1) (gatheredPut l j g)
+    → Carried (ucb_on board) (union_of (ecb_on board) (hp (j + 1))) j (i + 1) g → Passing board i (j + 1) (gathered_put l j g)
 passing-next board l i j g h few p c =
     let few-j : j < 32 = omega arith in
     let here = p.ahead j (omega arith) h in
     record {
       long = put-long l j g few-j p.long;
-      past = below_more (λ k. Column board (gatheredPut l j g) k (i + 1)) j
+      past = below_more (λ k. Column board (gathered_put l j g) k (i + 1)) j
           (λ k n. column-other board l j g few-j p.long k (i + 1) (omega arith) (λ z. omega arith) (p.past k n))
           (column-same board l j g few-j p.long (i + 1) here.above here.evicting c);
       ahead = λ k n m. column-other board l j g few-j p.long k i (omega arith) (λ z. omega arith) (p.ahead k (omega arith) m);
@@ -197,53 +197,53 @@ module _ (board l : List ℕ) (i : ℕ) (all : CacheSet) (n : ℕ) (few : i < 32
 
   column-still : (k : ℕ) → k < i → Column board sized k (i + 1)
   column-still k h =
-      column-kept (set-still k (omega arith) (λ z. omega arith)) (set-still (allAt k) (omega arith) (λ z. omega arith))
+      column-kept (set-still k (omega arith) (λ z. omega arith)) (set-still (all_at k) (omega arith) (λ z. omega arith))
       (λ q m e. number-still q (omega arith) (λ z. omega arith)) (p.past k h)
 
-  pub ledger-next : members all ≡ unionOf (ecbOn board) (hp (i + 1)) → n ≡ size (ecbOn board i)
-      → Ledger board (i + 1) (gatheredPut sized i (ungathered i))
+  pub ledger-next : members all ≡ union_of (ecb_on board) (hp (i + 1)) → n ≡ size (ecb_on board i)
+      → Ledger board (i + 1) (gathered_put sized i (ungathered i))
   ledger-next a e = record {
     long = put-long sized i _ few sized-long;
-    columns = below_more (λ k. Column board (gatheredPut sized i _) k (i + 1)) i
+    columns = below_more (λ k. Column board (gathered_put sized i _) k (i + 1)) i
         (λ k h. column-other board sized i _ few sized-long k (i + 1) (omega arith) (λ z. omega arith) (column-still k h))
         (column-same board sized i _ few sized-long (i + 1)
         (ap members (held-beside ecbs-in (256 + i) n i (λ r s z. omega arith) ∙ stored_same l i all (omega (arith, p.long))) ∙ a)
         (get_or-set_same ecbs-in (256 + i) n 0 (omega (arith, stored-long l i all, p.long)) ∙ e)
-        (carried_none (ucbOn board) _ i));
+        (carried_none (ucb_on board) _ i));
   }
 
 -- ---- the weights
 
 -- those of one task
 pub pair-weighed : (board : List ℕ) (i j : ℕ) (evicting : Set) (g : Gathered) {x y : List ℕ} → j < i
-    → Carried (ucbOn board) (unionOf (ecbOn board) (hp (j + 1))) j (i + 1) g → evicting ≡ ecbOn board j
-    → Put (InPair j 5) (λ m _. workOn board j + brtOn board * count_for evicting g m) x y
-    → Put (InPair j 5) (λ m b. weightOn board m i b) x y
-unfolding reloadsOf
+    → Carried (ucb_on board) (union_of (ecb_on board) (hp (j + 1))) j (i + 1) g → evicting ≡ ecb_on board j
+    → Put (InPair j 5) (λ m _. work_on board j + brt_on board * count_for evicting g m) x y
+    → Put (InPair j 5) (λ m b. weight_on board m i b) x y
+unfolding reloads_of
 pair-weighed board i j evicting g h c e p =
-    put_as p (λ m b q. ap (λ (cs : List Charge). workOn board j + brtOn board * reloadsIn (get_or cs m (noVictim 0)))
-    (charged (ucbOn board) _ j (ecbOn board) evicting i g h c e refl)
-    ∙ ap (λ (b : ℕ). weightOn board m i b) (sym q.1))
+    put_as p (λ m b q. ap (λ (cs : List Charge). work_on board j + brt_on board * reloads_in (get_or cs m (no_victim 0)))
+    (charged (ucb_on board) _ j (ecb_on board) evicting i g h c e refl)
+    ∙ ap (λ (b : ℕ). weight_on board m i b) (sym q.1))
 
 -- those of one task while an access blocks
 pub pair_under : (board : List ℕ) (a : Access) (i j : ℕ) (evicting : Set) (g r : Gathered) {x y : List ℕ} → j < i → j < a.ceiling
-    → Carried (ucbOn board) (unionOf (ecbOn board) (hp (j + 1))) j (i + 1) g → Next g (members a.ucb) (unionOf (ecbOn board) (hp (j + 1))) a.task r
-    → evicting ≡ ecbOn board j
-    → Put (InPair j 5) (λ m _. workOn board j + brtOn board * count_for evicting r m) x y
-    → Put (InPair j 5) (λ m b. weightOnUnder board a m i b) x y
-unfolding reloadsWith
+    → Carried (ucb_on board) (union_of (ecb_on board) (hp (j + 1))) j (i + 1) g → Next g (members a.ucb) (union_of (ecb_on board) (hp (j + 1))) a.task r
+    → evicting ≡ ecb_on board j
+    → Put (InPair j 5) (λ m _. work_on board j + brt_on board * count_for evicting r m) x y
+    → Put (InPair j 5) (λ m b. weight_on_under board a m i b) x y
+unfolding reloads_with
 pair_under board a i j evicting g r h l c n e p =
-    put_as p (λ m b q. ap (λ (cs : List Charge). workOn board j + brtOn board * reloadsIn (get_or cs m (noVictim 0))) same
-    ∙ ap (λ (b : ℕ). weightOnUnder board a m i b) (sym q.1))
+    put_as p (λ m b q. ap (λ (cs : List Charge). work_on board j + brt_on board * reloads_in (get_or cs m (no_victim 0))) same
+    ∙ ap (λ (b : ℕ). weight_on_under board a m i b) (sym q.1))
   where
-    same : chargesFor evicting r ≡ chargesWith (ucbOn board) (ecbOn board) (addedBy a j) a.task i j
+    same : charges_for evicting r ≡ charges_with (ucb_on board) (ecb_on board) (added_by a j) a.task i j
     same =
         let added = added-above a j l in
-        let most = n.most ∙ ap (λ (h : Hit). largerOf h (hit (size (members a.ucb)) a.task)) (c.most ∙ largest-from _ (j + 1) (i + 1) (omega arith)) in
+        let most = n.most ∙ ap (λ (h : Hit). larger_of h (hit (size (members a.ucb)) a.task)) (c.most ∙ largest-from _ (j + 1) (i + 1) (omega arith)) in
         let all = n.all ∙ ap (λ (A : Set). A ∪ members a.ucb) c.all in
         let shared =
         n.shared
-        ∙ ap (λ (h : Hit). largerOf h (hit (size (members a.ucb ∩ unionOf (ecbOn board) (hp (j + 1)))) a.task)) (c.shared ∙ largest-from _ (j + 1) (i + 1) (omega arith)) in
+        ∙ ap (λ (h : Hit). larger_of h (hit (size (members a.ucb ∩ union_of (ecb_on board) (hp (j + 1)))) a.task)) (c.shared ∙ largest-from _ (j + 1) (i + 1) (omega arith)) in
         cc
 
 -- what one set more leaves small

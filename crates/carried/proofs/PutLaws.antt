@@ -10,7 +10,7 @@ use lib.Seq.{get_or-set_same, get_or-set_other}
 use Rattle.sets.specs.Sets.{Set, ◌∩◌, size}
 use Rattle.sets.specs.Words.{members}
 use Rattle.carried.specs.declared.Gathered.{Gathered}
-use Rattle.carried.specs.Carried.{count_for, weightAt, Put, InPair, InRow}
+use Rattle.carried.specs.Carried.{count_for, weight_at, Put, InPair, InRow}
 
 put-none : (I : ℕ → ℕ → Type 0) (w : ℕ → ℕ → ℕ) (x : List ℕ) → length x ≡ 160 → ((m b : ℕ) → I m b → ⊥) → Put I w x x
 put-none I w x long empty = record { long = long; each = λ m b p. absurd (empty m b p); others = λ p n. refl }
@@ -26,18 +26,18 @@ record Joins (I J K : ℕ → ℕ → Type 0) : Type 0 where
   apart : (m b : ℕ) → I m b → J m b → ⊥
   room : (m b : ℕ) → K m b → b < 32
 
-weight-at-same : (m b n d : ℕ) → b < 32 → d < 32 → weightAt m b ≡ weightAt n d → (n ≡ m) × (d ≡ b)
+weight-at-same : (m b n d : ℕ) → b < 32 → d < 32 → weight_at m b ≡ weight_at n d → (n ≡ m) × (d ≡ b)
 weight-at-same m b n d h k e = (omega arith, omega arith)
 
 module _ {I J K : ℕ → ℕ → Type 0} (joins : Joins I J K) where
   put_then : {w : ℕ → ℕ → ℕ} {x y z : List ℕ} → Put I w x y → Put J w y z → Put K w x z
   put_then {w} {x} {y} {z} p q = record {
     long = q.long;
-    each = λ m b k. ⊎_elim (λ i. q.others (weightAt m b) (off m b i) ∙ p.each m b i) (λ j. q.each m b j) (joins.split m b k);
+    each = λ m b k. ⊎_elim (λ i. q.others (weight_at m b) (off m b i) ∙ p.each m b i) (λ j. q.each m b j) (joins.split m b k);
     others = λ n out. q.others n (λ m b j e. out m b (joins.right m b j) e) ∙ p.others n (λ m b i e. out m b (joins.left m b i) e);
   }
     where
-      off : (m b : ℕ) → I m b → (n d : ℕ) → J n d → weightAt m b ≡ weightAt n d → ⊥
+      off : (m b : ℕ) → I m b → (n d : ℕ) → J n d → weight_at m b ≡ weight_at n d → ⊥
       off m b i n d j e =
           let t = weight-at-same m b n d (joins.room m b (joins.left m b i)) (joins.room n d (joins.right n d j)) e in
           joins.apart m b i (rw (t.0, t.1) at j)
@@ -46,12 +46,12 @@ module _ {I J K : ℕ → ℕ → Type 0} (joins : Joins I J K) where
 Single : ℕ → ℕ → ℕ → ℕ → Type 0
 Single n j m b = (m ≡ n) × (b ≡ j)
 
-single-put : {w : ℕ → ℕ → ℕ} (x y : List ℕ) (n j v : ℕ) → length x ≡ 160 → n ≤ 4 → j < 32 → y ≡ set x (weightAt n j) v → v ≡ w n j → Put (Single n j) w x y
+single-put : {w : ℕ → ℕ → ℕ} (x y : List ℕ) (n j v : ℕ) → length x ≡ 160 → n ≤ 4 → j < 32 → y ≡ set x (weight_at n j) v → v ≡ w n j → Put (Single n j) w x y
 unfolding Single
 single-put {w} x y n j v long h k e q = record {
   long = ap length e ∙ simp length-set long;
-  each = λ m b s. rw (s.0, s.1, e) (get_or-set_same x (weightAt n j) v 0 (omega arith) ∙ q);
-  others = λ p out. rw e (get_or-set_other x (weightAt n j) p v 0 (out n j (refl, refl)));
+  each = λ m b s. rw (s.0, s.1, e) (get_or-set_same x (weight_at n j) v 0 (omega arith) ∙ q);
+  others = λ p out. rw e (get_or-set_other x (weight_at n j) p v 0 (out n j (refl, refl)));
 }
 
 -- a task: one method more
@@ -67,16 +67,16 @@ module _ (j : ℕ) (column : j < 32) where
   }
 
   pair-next : {w : ℕ → ℕ → ℕ} {x y : List ℕ} (n : ℕ) → n ≤ 4 → Put (InPair j n) w x y
-      → (z : List ℕ) (v : ℕ) → z ≡ set y (weightAt n j) v → v ≡ w n j → Put (InPair j (n + 1)) w x z
+      → (z : List ℕ) (v : ℕ) → z ≡ set y (weight_at n j) v → v ≡ w n j → Put (InPair j (n + 1)) w x z
   pair-next {y = y} n h p z v e q = put_then (pair-joins n) p (single-put y z n j v p.long h column e q)
 
   -- the five weights of the code
   pub pair_put : (u v x y z s : List ℕ) (work brt evicting reloaded : ℕ) (ecb : Set) (g : Gathered) → length u ≡ 160
-      → v ≡ set u (weightAt 0 j) (work + brt * 0)
-      → x ≡ set v (weightAt 1 j) (work + brt * evicting) → evicting ≡ size ecb
-      → y ≡ set x (weightAt 2 j) (work + brt * g.most.reloads.0)
-      → z ≡ set y (weightAt 3 j) (work + brt * reloaded) → reloaded ≡ size (members g.all ∩ ecb)
-      → s ≡ set z (weightAt 4 j) (work + brt * g.shared.reloads.0)
+      → v ≡ set u (weight_at 0 j) (work + brt * 0)
+      → x ≡ set v (weight_at 1 j) (work + brt * evicting) → evicting ≡ size ecb
+      → y ≡ set x (weight_at 2 j) (work + brt * g.most.reloads.0)
+      → z ≡ set y (weight_at 3 j) (work + brt * reloaded) → reloaded ≡ size (members g.all ∩ ecb)
+      → s ≡ set z (weight_at 4 j) (work + brt * g.shared.reloads.0)
       → Put (InPair j 5) (λ m _. work + brt * count_for ecb g m) u s
   pair_put u v x y z s work brt evicting reloaded ecb g long e0 e1 q1 e2 e3 q3 e4 =
       let w : ℕ → ℕ → ℕ = λ m _. work + brt * count_for ecb g m in

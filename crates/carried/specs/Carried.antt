@@ -15,27 +15,27 @@ use Rattle.sets.specs.Words.{members}
 use Rattle.sets.specs.Stored.{held_at, stored_at, set_at}
 use Rattle.demand.specs.Positions.{between, hp}
 use Rattle.accesses.specs.declared.Access.{Access}
-use Rattle.board.specs.Board.{ucbOn, ecbOn}
+use Rattle.board.specs.Board.{ucb_on, ecb_on}
 use Rattle.carried.specs.declared.Gathered.{Gathered}
 use Rattle.costs.specs.declared.Charge.{Charge}
 use Rattle.costs.specs.declared.Charge.TheVariants.{Victim}
-use Rattle.costs.specs.Gather.{unionOf, hit, largerOf, largestFrom}
-use Rattle.costs.specs.Listed.{hitOn, hitPut}
-use Rattle.costs.specs.Costs.{noVictim, reloadsIn, weightOn, weightOnUnder}
+use Rattle.costs.specs.Gather.{union_of, hit, larger_of, largest_from}
+use Rattle.costs.specs.Listed.{hit_on, hit_put}
+use Rattle.costs.specs.Costs.{no_victim, reloads_in, weight_on, weight_on_under}
 
 -- ---- what is gathered for a task
 
 -- one UCB more, that of the task at i
 pub record Next (g : Gathered) (ucb above : Set) (i : ℕ) (r : Gathered) : Type 0 where
-  pub most : r.most ≡ largerOf g.most (hit (size ucb) i)
+  pub most : r.most ≡ larger_of g.most (hit (size ucb) i)
   pub all : members r.all ≡ members g.all ∪ ucb
-  pub shared : r.shared ≡ largerOf g.shared (hit (size (ucb ∩ above)) i)
+  pub shared : r.shared ≡ larger_of g.shared (hit (size (ucb ∩ above)) i)
 
 -- before row i: what is gathered for j over the positions from j + 1 on and below i
 pub record Carried (U : ℕ → Set) (above : Set) (j i : ℕ) (g : Gathered) : Type 0 where
-  pub most : g.most ≡ largestFrom (j + 1) (λ k. size (U k)) (between (j + 1) i)
-  pub all : members g.all ≡ unionOf U (between (j + 1) i)
-  pub shared : g.shared ≡ largestFrom (j + 1) (λ k. size (U k ∩ above)) (between (j + 1) i)
+  pub most : g.most ≡ largest_from (j + 1) (λ k. size (U k)) (between (j + 1) i)
+  pub all : members g.all ≡ union_of U (between (j + 1) i)
+  pub shared : g.shared ≡ largest_from (j + 1) (λ k. size (U k ∩ above)) (between (j + 1) i)
 
 -- no count is above what a product by the block reload time may have
 pub record Small (g : Gathered) : Type 0 where
@@ -43,45 +43,45 @@ pub record Small (g : Gathered) : Type 0 where
   pub shared : g.shared.reloads.0 ≤ 2048
 
 -- the charges of the methods 0 to 4 for a task with this ECB
-abbrev pub chargesFor : Set → Gathered → List Charge
-chargesFor ecb g = noVictim 0 ∷ noVictim (size ecb) ∷ Victim g.most ∷ noVictim (size (members g.all ∩ ecb)) ∷ Victim g.shared ∷ []
+abbrev pub charges_for : Set → Gathered → List Charge
+charges_for ecb g = no_victim 0 ∷ no_victim (size ecb) ∷ Victim g.most ∷ no_victim (size (members g.all ∩ ecb)) ∷ Victim g.shared ∷ []
 
 -- the reload count among them under method m
 abbrev pub count_for : Set → Gathered → ℕ → ℕ
-count_for ecb g m = reloadsIn (get_or (chargesFor ecb g) m (noVictim 0))
+count_for ecb g m = reloads_in (get_or (charges_for ecb g) m (no_victim 0))
 
 -- ---- where it stands
 
 -- the union of the ECBs down to that of the task at j
-abbrev pub aboveOn : List ℕ → ℕ → Set
-aboveOn ledger j = set_at ledger j
+abbrev pub above_on : List ℕ → ℕ → Set
+above_on ledger j = set_at ledger j
 
 -- the size of its ECB
-abbrev pub evictingOn : List ℕ → ℕ → ℕ
-evictingOn ledger j = get_or ledger (256 + j) 0
+abbrev pub evicting_on : List ℕ → ℕ → ℕ
+evicting_on ledger j = get_or ledger (256 + j) 0
 
 -- the positions of what is gathered for it: of the union among sets of four words, and of the two hits
-abbrev pub allAt : ℕ → ℕ
-allAt j = 32 + j
+abbrev pub all_at : ℕ → ℕ
+all_at j = 32 + j
 
-abbrev pub mostAt : ℕ → ℕ
-mostAt j = 288 + j
+abbrev pub most_at : ℕ → ℕ
+most_at j = 288 + j
 
 abbrev pub shared_at : ℕ → ℕ
 shared_at j = 352 + j
 
-abbrev pub gatheredOn : List ℕ → ℕ → Gathered
-gatheredOn ledger j = record { most = hitOn ledger (mostAt j); all = held_at ledger (allAt j); shared = hitOn ledger (shared_at j) }
+abbrev pub gathered_on : List ℕ → ℕ → Gathered
+gathered_on ledger j = record { most = hit_on ledger (most_at j); all = held_at ledger (all_at j); shared = hit_on ledger (shared_at j) }
 
 -- the ledger with what is gathered for j put in
-abbrev pub gatheredPut : List ℕ → ℕ → Gathered → List ℕ
-gatheredPut ledger j g = hitPut (stored_at (hitPut ledger (mostAt j) g.most) (allAt j) g.all) (shared_at j) g.shared
+abbrev pub gathered_put : List ℕ → ℕ → Gathered → List ℕ
+gathered_put ledger j g = hit_put (stored_at (hit_put ledger (most_at j) g.most) (all_at j) g.all) (shared_at j) g.shared
 
 -- the column of the task at j before row i
 pub record Column (board ledger : List ℕ) (j i : ℕ) : Type 0 where
-  pub above : aboveOn ledger j ≡ unionOf (ecbOn board) (hp (j + 1))
-  pub evicting : evictingOn ledger j ≡ size (ecbOn board j)
-  pub gathered : Carried (ucbOn board) (unionOf (ecbOn board) (hp (j + 1))) j i (gatheredOn ledger j)
+  pub above : above_on ledger j ≡ union_of (ecb_on board) (hp (j + 1))
+  pub evicting : evicting_on ledger j ≡ size (ecb_on board j)
+  pub gathered : Carried (ucb_on board) (union_of (ecb_on board) (hp (j + 1))) j i (gathered_on ledger j)
 
 -- the ledger before row i: a column for each task above it
 pub record Ledger (board : List ℕ) (i : ℕ) (ledger : List ℕ) : Type 0 where
@@ -97,14 +97,14 @@ pub record Passing (board : List ℕ) (i j : ℕ) (ledger : List ℕ) : Type 0 w
 -- ---- the weights of a row
 
 -- where the weight of j under method m stands in a list of 5 * 32 numbers
-abbrev pub weightAt : ℕ → ℕ → ℕ
-weightAt m j = m * 32 + j
+abbrev pub weight_at : ℕ → ℕ → ℕ
+weight_at m j = m * 32 + j
 
 -- the list after w m j was put in for each method and task inside, and nothing else was changed
 pub record Put (inside : ℕ → ℕ → Type 0) (w : ℕ → ℕ → ℕ) (before after : List ℕ) : Type 0 where
   pub long : length after ≡ 160
-  pub each : (m j : ℕ) → inside m j → get_or after (weightAt m j) 0 ≡ w m j
-  pub others : (p : ℕ) → ((m j : ℕ) → inside m j → p ≡ weightAt m j → ⊥) → get_or after p 0 ≡ get_or before p 0
+  pub each : (m j : ℕ) → inside m j → get_or after (weight_at m j) 0 ≡ w m j
+  pub others : (p : ℕ) → ((m j : ℕ) → inside m j → p ≡ weight_at m j → ⊥) → get_or after p 0 ≡ get_or before p 0
 
 -- the first n methods of the task at j
 abbrev pub InPair : ℕ → ℕ → ℕ → ℕ → Type 0
@@ -117,15 +117,15 @@ InRow n m b = (m ≤ 4) × (b < n)
 -- a list that has these weights of row i
 pub record HasWeights (w : ℕ → ℕ → ℕ) (i : ℕ) (weights : List ℕ) : Type 0 where
   pub long : length weights ≡ 160
-  pub each : (m j : ℕ) → m ≤ 4 → j < i → get_or weights (weightAt m j) 0 ≡ w m j
+  pub each : (m j : ℕ) → m ≤ 4 → j < i → get_or weights (weight_at m j) 0 ≡ w m j
 
 -- those that the board gives
 abbrev pub Weighed : List ℕ → ℕ → List ℕ → Type 0
-Weighed board i = HasWeights (λ m j. weightOn board m i j) i
+Weighed board i = HasWeights (λ m j. weight_on board m i j) i
 
 -- those that it gives while an access blocks i
 abbrev pub WeighedUnder : List ℕ → Access → ℕ → List ℕ → Type 0
-WeighedUnder board a i = HasWeights (λ m j. weightOnUnder board a m i j) i
+WeighedUnder board a i = HasWeights (λ m j. weight_on_under board a m i j) i
 
 -- the weights of row i, and the ledger carried past it
 pub record RowWeighed (board : List ℕ) (i : ℕ) (ledger weights : List ℕ) : Type 0 where

@@ -4,9 +4,9 @@ ghost use Rattle.std.specs.Prelude.{◌≡◌, ◌+◌, ◌*◌, ◌<◌, ◌≤
 ghost use Rattle.sets.specs.Sets.{◌∩◌, size};
 ghost use Rattle.sets.specs.Words.{members};
 ghost use Rattle.demand.specs.Positions.{hp};
-ghost use Rattle.board.specs.Board.{ecbOn, Lent};
-ghost use Rattle.costs.specs.Gather.{unionOf, hit, largerOf};
-ghost use Rattle.carried.specs.Carried.{Next, Small, count_for, gatheredOn, gatheredPut, Ledger, Passing, weightAt, Put, InPair, Weighed, WeighedUnder, RowWeighed};
+ghost use Rattle.board.specs.Board.{ecb_on, Lent};
+ghost use Rattle.costs.specs.Gather.{union_of, hit, larger_of};
+ghost use Rattle.carried.specs.Carried.{Next, Small, count_for, gathered_on, gathered_put, Ledger, Passing, weight_at, Put, InPair, Weighed, WeighedUnder, RowWeighed};
 
 use accesses::Access;
 use board::{BRT, ECBS, UCBS, WORKS};
@@ -44,7 +44,7 @@ struct Gathered {
 // The larger of a hit and what a UCB shares with the ECBs. It shares no more than its size, `useful`, so where that is not larger nothing is worked out.
 fn most_shared(most: Hit, ucb: CacheSet, useful: Hit, above: CacheSet) -> Hit
     requires { useful.reloads.0 ≡ size (members ucb) }
-    ensures { result ≡ largerOf most (hit (size (members ucb ∩ members above)) useful.victim) }
+    ensures { result ≡ larger_of most (hit (size (members ucb ∩ members above)) useful.victim) }
 {
     if useful.reloads.0 <= most.reloads.0 {
         return most;
@@ -73,7 +73,7 @@ fn gather(gathered: Gathered, ucb: CacheSet, useful: Hit, above: CacheSet) -> Ga
 // What the ledger has gathered for the task at j.
 fn gathered_for(ledger: &[u64], j: usize) -> Gathered
     requires { (j < 32) × (length ledger.now ≡ 416) }
-    ensures { result ≡ gatheredOn ledger.now j }
+    ensures { result ≡ gathered_on ledger.now j }
 {
     Gathered {
         most: costs::hit_at(ledger, LARGEST + j),
@@ -85,7 +85,7 @@ fn gathered_for(ledger: &[u64], j: usize) -> Gathered
 // Puts in what is gathered for the task at j.
 fn keep(ledger: &mut [u64; LEDGER], j: usize, gathered: Gathered)
     requires { (j < 32) × (length ledger.old ≡ 416) }
-    ensures { ledger.new ≡ gatheredPut ledger.old j gathered }
+    ensures { ledger.new ≡ gathered_put ledger.old j gathered }
 {
     costs::keep_hit(ledger, LARGEST + j, gathered.most);
     gathered.all.store(ledger, ALL + j);
@@ -95,7 +95,7 @@ fn keep(ledger: &mut [u64; LEDGER], j: usize, gathered: Gathered)
 // Puts in the weight of j under a method: `work` ticks and `n` reloads.
 fn put(weights: &mut [u64; WEIGHTS], method: usize, j: usize, work: Ticks, n: Reloads, brt: Ticks)
     requires { (method ≤ 4) × (j < 32) × (work.0 ≤ 250000000) × (n.0 ≤ 2048) × (brt.0 ≤ 100000) × (length weights.old ≡ 160) }
-    ensures { (weights.new ≡ set weights.old (weightAt method j) (work.0 + brt.0 * n.0)) × (length weights.new ≡ 160) }
+    ensures { (weights.new ≡ set weights.old (weight_at method j) (work.0 + brt.0 * n.0)) × (length weights.new ≡ 160) }
 {
     let at = method * 32 + j;
     weights[at] = costs::weight(work, n, brt).0;
@@ -125,7 +125,7 @@ fn put_pair(
 // The union of the ECBs down to that of the task at i: the one in the column above, with one set more.
 fn ecbs_down_to(board: &[u64], i: usize, ledger: &[u64]) -> CacheSet
     requires { Lent board.now (i + 1) × Passing board.now i i ledger.now }
-    ensures { members result ≡ unionOf (ecbOn board.now) (hp (i + 1)) }
+    ensures { members result ≡ union_of (ecb_on board.now) (hp (i + 1)) }
 {
     let own = CacheSet::at(board, ECBS + i);
     if i == 0 {

@@ -15,12 +15,12 @@ use Rattle.demand.specs.Demand.{NoMore}
 use Rattle.demand.specs.Terms.{InRange}
 use Rattle.demand.proofs.PositionLaws.{Rising, place-lt, place-le, Grows, gathered}
 use Rattle.accesses.specs.declared.Access.{Access}
-use Rattle.accesses.specs.Accesses.{mayBlock, addedBy}
+use Rattle.accesses.specs.Accesses.{may_block, added_by}
 use Rattle.table.specs.declared.Table.{Table}
 use Rattle.table.specs.Tasks.{at}
 use Rattle.table.specs.Accepted.{AcceptedTable}
-use Rattle.costs.specs.Gather.{aff, unionOf, largestAt}
-use Rattle.costs.specs.Costs.{ucbOf, ecbOf, reloadsOf, reloadsWith, termUnder}
+use Rattle.costs.specs.Gather.{aff, union_of, largest_at}
+use Rattle.costs.specs.Costs.{ucb_of, ecb_of, reloads_of, reloads_with, term_under}
 use Rattle.costs.specs.Harder.{Harder, HarderAccess, HarderBy}
 use Rattle.costs.proofs.HitLaws.{hit-grows, larger-grows}
 use Rattle.costs.proofs.CostLaws.{reloads-none, with-most}
@@ -46,7 +46,7 @@ module _ (place : ℕ → ℕ) (rises : Rising place) (i j : ℕ) where
   in-aff k l = omega (arith, place-le place rises k i (omega arith))
 
   largest-by : (F G : ℕ → ℕ) → ((k : ℕ) → k ≤ i → F k ≤ G (place k))
-      → (largestAt F (aff i j)).reloads.0 ≤ (largestAt G (aff (place i) (place j))).reloads.0
+      → (largest_at F (aff i j)).reloads.0 ≤ (largest_at G (aff (place i) (place j))).reloads.0
   largest-by F G f =
       hit-grows _ _ F G _ _
       (gathered max-grows place rises 0 0 (omega arith) F G (j + 1) (place j + 1) next_place (i + 1) (place i + 1)
@@ -54,13 +54,13 @@ module _ (place : ℕ → ℕ) (rises : Rising place) (i j : ℕ) where
 
 module _ (place : ℕ → ℕ) (rises : Rising place) (U E U' E' : ℕ → Set) (i j : ℕ) (above : j < i)
     (u : (k : ℕ) → k ≤ i → U k ⊆ U' (place k)) (e : (k : ℕ) → k ≤ i → E k ⊆ E' (place k)) (X X' : Set) (x : X ⊆ X') (n n' : ℕ) where
-  evicted : unionOf E (hp (j + 1)) ⊆ unionOf E' (hp (place j + 1))
+  evicted : union_of E (hp (j + 1)) ⊆ union_of E' (hp (place j + 1))
   evicted =
       gathered union-grows place rises ∅ ∅ (λ s h. h) E E' 0 0 zero-le (j + 1) (place j + 1)
       (λ k h l. (omega (arith, place-le place rises k j (omega arith)), e k (omega arith)))
 
-  pub with-by : (m : ℕ) → reloadsWith U E X n m i j ≤ reloadsWith U' E' X' n' m (place i) (place j)
-  unfolding reloadsWith
+  pub with-by : (m : ℕ) → reloads_with U E X n m i j ≤ reloads_with U' E' X' n' m (place i) (place j)
+  unfolding reloads_with
   with-by zero = omega arith
   with-by (suc zero) = size_mono _ _ (e j (omega arith))
   with-by (suc (suc zero)) =
@@ -74,7 +74,7 @@ module _ (place : ℕ → ℕ) (rises : Rising place) (U E U' E' : ℕ → Set) 
       (e j (omega arith))
   with-by (suc (suc (suc (suc zero)))) =
       larger-grows _ _ _ _
-      (largest-by place rises i j (λ k. size (U k ∩ unionOf E (hp (j + 1)))) (λ k. size (U' k ∩ unionOf E' (hp (place j + 1))))
+      (largest-by place rises i j (λ k. size (U k ∩ union_of E (hp (j + 1)))) (λ k. size (U' k ∩ union_of E' (hp (place j + 1))))
       (λ k l. size-inter-mono _ _ _ _ (u k l) evicted))
       (size-inter-mono _ _ _ _ x evicted)
   with-by (suc (suc (suc (suc (suc m))))) = omega arith
@@ -82,26 +82,26 @@ module _ (place : ℕ → ℕ) (rises : Rising place) (U E U' E' : ℕ → Set) 
 -- ---- the two unions never count more than what they are unions for
 
 module _ (U E : ℕ → Set) (X : Set) (n i j : ℕ) where
-  pub ucb-union-with : reloadsWith U E X n 3 i j ≤ reloadsWith U E X n 1 i j
-  unfolding reloadsWith
+  pub ucb-union-with : reloads_with U E X n 3 i j ≤ reloads_with U E X n 1 i j
+  unfolding reloads_with
   ucb-union-with = size-inter-right _ _
 
-  pub ecb-union-with : reloadsWith U E X n 4 i j ≤ reloadsWith U E X n 2 i j
-  unfolding reloadsWith
+  pub ecb-union-with : reloads_with U E X n 4 i j ≤ reloads_with U E X n 2 i j
+  unfolding reloads_with
   ecb-union-with =
       larger-grows _ _ _ _
-      (largest-by (λ k. k) (λ k. omega arith) i j (λ k. size (U k ∩ unionOf E (hp (j + 1)))) (λ k. size (U k)) (λ k l. size-inter-left _ _))
+      (largest-by (λ k. k) (λ k. omega arith) i j (λ k. size (U k ∩ union_of E (hp (j + 1)))) (λ k. size (U k)) (λ k l. size-inter-left _ _))
       (size-inter-left _ _)
 
 -- one member more never makes a count smaller
-pub with-more : (U E : ℕ → Set) (X : Set) (n i j m : ℕ) → j < i → reloadsOf U E m i j ≤ reloadsWith U E X n m i j
+pub with-more : (U E : ℕ → Set) (X : Set) (n i j m : ℕ) → j < i → reloads_of U E m i j ≤ reloads_with U E X n m i j
 with-more U E X n i j m above =
     rw (← reloads-none U E n i j m)
     (with-by (λ k. k) (λ k. omega arith) U E U E i j above (λ k l s h. h) (λ k l s h. h) ∅ X (empty-least X) n n m)
 
 -- ---- the terms of accepted tables, while an access blocks
 
-pub term-ranged : (table : Table) (a : Access) (m i j : ℕ) → AcceptedTable table → j < table.count → InRange (termUnder table a m i j)
+pub term-ranged : (table : Table) (a : Access) (m i j : ℕ) → AcceptedTable table → j < table.count → InRange (term_under table a m i j)
 term-ranged table a m i j p h =
     let q = p.tasks j h in
     record {
@@ -109,17 +109,17 @@ term-ranged table a m i j p h =
       period-most = q.period.1;
       jitter = omega (arith, q.jitter, q.deadline, q.period);
       weight =
-          omega (arith, q.work, mul-le-mul {n₂ = 100000} {m₂ = 2048} p.brt (with-most (ucbOf table) (ecbOf table) i j (addedBy a j) a.task m));
+          omega (arith, q.work, mul-le-mul {n₂ = 100000} {m₂ = 2048} p.brt (with-most (ucb_of table) (ecb_of table) i j (added_by a j) a.task m));
     }
 
 -- where what the second access adds for the place of j has every mark that the first adds for j
 pub term-harder : (place : ℕ → ℕ) (first second : Table) (a b : Access) (i j : ℕ) → HarderBy place i first second → AcceptedTable second → j < i
-    → addedBy a j ⊆ addedBy b (place j) → (m : ℕ) → NoMore (termUnder first a m i j) (termUnder second b m (place i) (place j))
+    → added_by a j ⊆ added_by b (place j) → (m : ℕ) → NoMore (term_under first a m i j) (term_under second b m (place i) (place j))
 term-harder place first second a b i j harder p above added m =
     let t = harder.tasks j (omega arith) in
     let g =
-    with-by place harder.rises (ucbOf first) (ecbOf first) (ucbOf second) (ecbOf second) i j above
-    (λ k l. (harder.tasks k l).ucb) (λ k l. (harder.tasks k l).ecb) (addedBy a j) (addedBy b (place j)) added a.task b.task m
+    with-by place harder.rises (ucb_of first) (ecb_of first) (ucb_of second) (ecb_of second) i j above
+    (λ k l. (harder.tasks k l).ucb) (λ k l. (harder.tasks k l).ecb) (added_by a j) (added_by b (place j)) added a.task b.task m
     in
     record {
       live = (p.tasks (place j) (harder.held j (omega arith))).period.0;
@@ -158,11 +158,11 @@ module _ (place : ℕ → ℕ) (rises : Rising place) (j k : ℕ) where
 
 module _ (place : ℕ → ℕ) (rises : Rising place) (a b : Access) (harder : HarderAccess place a b) where
   -- it may block at the place of i where the other may block i
-  pub blocks-place : (i : ℕ) → mayBlock i a ≡ mayBlock (place i) b
+  pub blocks-place : (i : ℕ) → may_block i a ≡ may_block (place i) b
   blocks-place i = rw (harder.task, harder.ceiling, place-ltb place rises i a.task, place-leb place rises a.ceiling i)
 
   -- and adds no less
-  pub adds-place : (j : ℕ) → addedBy a j ⊆ addedBy b (place j)
+  pub adds-place : (j : ℕ) → added_by a j ⊆ added_by b (place j)
   adds-place j = rw (harder.ceiling, ← place-ltb place rises j a.ceiling) (go (ltb j a.ceiling))
     where
       go : (t : Bool) → cond t (members a.ucb) ∅ ⊆ cond t (members b.ucb) ∅

@@ -1,9 +1,9 @@
 // What pre-emption costs: reload counts with whom they hit, and what one activation asks for with them. specs/Costs.antt says what they are; what is
 // here is common to the two crates that work them out, for the rows of a report and for one row.
 ghost use Rattle.std.specs.Prelude.{◌≡◌, ◌+◌, ◌*◌, ◌<◌, ◌≤◌, length};
-ghost use Rattle.costs.specs.Gather.{hit, largerOf};
-ghost use Rattle.costs.specs.Listed.{hitOn, hitPut};
-ghost use Rattle.costs.specs.Costs.{reloadsIn};
+ghost use Rattle.costs.specs.Gather.{hit, larger_of};
+ghost use Rattle.costs.specs.Listed.{hit_on, hit_put};
+ghost use Rattle.costs.specs.Costs.{reloads_in};
 
 use units::{Reloads, Ticks};
 
@@ -39,7 +39,7 @@ pub enum Charge {
 impl Charge {
     // How many reloads, with or without a victim.
     pub fn count(self) -> Reloads
-        ensures { result.0 ≡ reloadsIn self }
+        ensures { result.0 ≡ reloads_in self }
     {
         match self {
             Charge::Victim(hit) => hit.reloads,
@@ -50,7 +50,7 @@ impl Charge {
 
 // The larger of two hits, and the first where they are equal.
 pub fn larger(a: Hit, b: Hit) -> Hit
-    ensures { result ≡ largerOf a b }
+    ensures { result ≡ larger_of a b }
 {
     if a.reloads.0 < b.reloads.0 { b } else { a }
 }
@@ -58,7 +58,7 @@ pub fn larger(a: Hit, b: Hit) -> Hit
 // The hit that stands at a place of a list, with its victim some places on.
 pub fn hit_at(list: &[u64], place: usize) -> Hit
     requires { 32 + place < length list.now }
-    ensures { result ≡ hitOn list.now place }
+    ensures { result ≡ hit_on list.now place }
 {
     Hit {
         reloads: Reloads(list[place]),
@@ -69,7 +69,7 @@ pub fn hit_at(list: &[u64], place: usize) -> Hit
 // Puts a hit in at a place.
 pub fn keep_hit(list: &mut [u64], place: usize, hit: Hit)
     requires { 32 + place < length list.old }
-    ensures { list.new ≡ hitPut list.old place hit }
+    ensures { list.new ≡ hit_put list.old place hit }
 {
     list[place] = hit.reloads.0;
     list[VICTIM + place] = hit.victim as u64;

@@ -11,22 +11,22 @@ use Rattle.demand.specs.declared.Response.{Response}
 use Rattle.demand.specs.declared.Response.TheVariants.{Within, Unschedulable}
 use Rattle.demand.specs.declared.Cell.{Cell}
 use Rattle.demand.specs.declared.Row.{Row}
-use Rattle.demand.specs.Least.{AnswerInRange, sooner, later, latestOf}
+use Rattle.demand.specs.Least.{AnswerInRange, sooner, later, latest_of}
 use Rattle.demand.proofs.LeastLaws.{least-in-range}
 use Rattle.demand.proofs.LaterLaws.{latest-front}
 use Rattle.accesses.specs.declared.Access.{Access}
-use Rattle.tasks.specs.Tasks.{limitOf}
+use Rattle.tasks.specs.Tasks.{limit_of}
 use Rattle.table.specs.declared.Table.{Table}
 use Rattle.table.specs.Tasks.{at}
 use Rattle.table.specs.Accepted.{AcceptedTable}
 use Rattle.demand.proofs.FrontLaws.{front_at}
-use Rattle.analysis.specs.Analysis.{blockersOf, leastUnder, answer_of, responseOf, cell, row_of, rows_of}
-use Rattle.verdicts.specs.Rows.{blankCell, blankRow, answerUnder, answersIn}
+use Rattle.analysis.specs.Analysis.{blockers_of, least_under, answer_of, response_of, cell, row_of, rows_of}
+use Rattle.verdicts.specs.Rows.{blank_cell, blank_row, answer_under, answers_in}
 use Rattle.verdicts.proofs.Lists.{methods-at}
 use Rattle.report.specs.Rows.{Reportable}
-use Rattle.report.specs.Report.{reportOf}
+use Rattle.report.specs.Report.{report_of}
 use Rattle.report.proofs.Agree.{report-agrees}
-use Rattle.crpd.specs.Operations.{reportIn}
+use Rattle.crpd.specs.Operations.{report_in}
 
 -- ---- no response is above the longest deadline
 
@@ -40,20 +40,20 @@ later-in-range (Within a) (Within b) p q = omega arith
 later-in-range (Within a) Unschedulable p q = q
 later-in-range Unschedulable b p q = p
 
-latest-in-range : (A : Access → Response) → ((a : Access) → AnswerInRange (A a)) → (l : List Access) → AnswerInRange (latestOf (map A l))
+latest-in-range : (A : Access → Response) → ((a : Access) → AnswerInRange (A a)) → (l : List Access) → AnswerInRange (latest_of (map A l))
 latest-in-range A p [] = omega arith
-latest-in-range A p (a ∷ l) = rw (latest-front (A a) (map A l)) (later-in-range (A a) (latestOf (map A l)) (p a) (latest-in-range A p l))
+latest-in-range A p (a ∷ l) = rw (latest-front (A a) (map A l)) (later-in-range (A a) (latest_of (map A l)) (p a) (latest-in-range A p l))
 
 module _ (table : Table) (accepted : AcceptedTable table) where
   answer-in-range : (m i : ℕ) → i < table.count → AnswerInRange (answer_of table m i)
   unfolding answer_of
   answer-in-range m i h =
       let t = accepted.tasks i h in
-      latest-in-range (λ a. leastUnder table a m i (limitOf (at table i)))
-      (λ a. least-in-range _ (limitOf (at table i)) (omega (arith, t.deadline, t.period))) (blockersOf table i)
+      latest-in-range (λ a. least_under table a m i (limit_of (at table i)))
+      (λ a. least-in-range _ (limit_of (at table i)) (omega (arith, t.deadline, t.period))) (blockers_of table i)
 
-  response-in-range : (m i : ℕ) → i < table.count → AnswerInRange (responseOf table m i)
-  unfolding responseOf
+  response-in-range : (m i : ℕ) → i < table.count → AnswerInRange (response_of table m i)
+  unfolding response_of
   response-in-range m i h = go (eqb m 5)
     where
       go : (t : Bool) → AnswerInRange (cond t (sooner (answer_of table 3 i) (answer_of table 4 i)) (answer_of table m i))
@@ -62,15 +62,15 @@ module _ (table : Table) (accepted : AcceptedTable table) where
 
 -- ---- what the rows hold
 
-cell_at : (table : Table) (i m : ℕ) → m < 6 → answerUnder (row_of table i) m ≡ responseOf table m i
-cell_at table i m h = ap (λ (c : Cell). c.response) (methods-at (λ k. cell (responseOf table k i)) m blankCell h)
+cell_at : (table : Table) (i m : ℕ) → m < 6 → answer_under (row_of table i) m ≡ response_of table m i
+cell_at table i m h = ap (λ (c : Cell). c.response) (methods-at (λ k. cell (response_of table k i)) m blank_cell h)
 
 module _ (table : Table) (rows : List Row) (e : rows ≡ rows_of table) where
-  row_at : (i : ℕ) → i < table.count → get_or rows i blankRow ≡ row_of table i
-  row_at i h = ap (λ (xs : List Row). get_or xs i blankRow) e ∙ front_at _ (row_of table) table.count i blankRow h
+  row_at : (i : ℕ) → i < table.count → get_or rows i blank_row ≡ row_of table i
+  row_at i h = ap (λ (xs : List Row). get_or xs i blank_row) e ∙ front_at _ (row_of table) table.count i blank_row h
 
-  pub rows-hold : (m i : ℕ) → m < 6 → i < table.count → answersIn rows m i ≡ responseOf table m i
-  rows-hold m i h l = ap (λ (row : Row). answerUnder row m) (row_at i l) ∙ cell_at table i m h
+  pub rows-hold : (m i : ℕ) → m < 6 → i < table.count → answers_in rows m i ≡ response_of table m i
+  rows-hold m i h l = ap (λ (row : Row). answer_under row m) (row_at i l) ∙ cell_at table i m h
 
   pub reportable : AcceptedTable table → Reportable table rows
   reportable accepted = record {
@@ -78,5 +78,5 @@ module _ (table : Table) (rows : List Row) (e : rows ≡ rows_of table) where
     ranged = λ m i h l. rw (rows-hold m i h l) (response-in-range table accepted m i l);
   }
 
-  pub report-is : reportOf table (answersIn rows) ≡ reportIn table
-  report-is = report-agrees table (answersIn rows) (responseOf table) rows-hold
+  pub report-is : report_of table (answers_in rows) ≡ report_in table
+  report-is = report-agrees table (answers_in rows) (response_of table) rows-hold

@@ -12,21 +12,21 @@ use Rattle.table.specs.declared.Refusal.{Refusal}
 use Rattle.table.specs.declared.Outcome.{Outcome}
 use Rattle.table.specs.declared.Ruling.{Ruling}
 use Rattle.table.specs.declared.Ruling.TheVariants as ruling
-use Rattle.table.specs.Reading.{refusal, readText}
+use Rattle.table.specs.Reading.{refusal, read_text}
 use Rattle.table.specs.Accepted.{AcceptedTable}
 use Rattle.table.proofs.AcceptedLaws.{accepted-table}
 use Rattle.writer.specs.Wrote.{Wrote}
 use Rattle.delivery.specs.declared.Written.{Written}
 use Rattle.delivery.specs.declared.Written.TheVariants as written
-use Rattle.analysis.specs.Analysis.{responseOf, Answerable}
+use Rattle.analysis.specs.Analysis.{response_of, Answerable}
 use Rattle.report.specs.Reported.{Reported}
 use Rattle.explanation.specs.Explained.{Explained}
 use Rattle.delivery.specs.Delivery.{Delivered}
-use Rattle.delivery.specs.Error.{errorText}
+use Rattle.delivery.specs.Error.{error_text}
 use Rattle.delivery.proofs.Deliveries.{fitting}
 use Rattle.crpd.specs.declared.Reply.{Reply}
 use Rattle.crpd.specs.declared.Reply.TheVariants.{Refused}
-use Rattle.crpd.specs.Operations.{replyOf, unlessRefused, answerTo, TextWritten, reportIn, TextReported, taskRuling, taskRulingOf, methodRuling, TextExplained, printedOf, printed}
+use Rattle.crpd.specs.Operations.{reply_of, unless_refused, answer_to, TextWritten, report_in, TextReported, task_ruling, task_ruling_of, method_ruling, TextExplained, printed_of, printed}
 
 -- ---- a text that is written
 
@@ -54,44 +54,44 @@ module _ (m i : ℕ) (read : Ruling) (count : ℕ) where
   abbrev position : Ruling
   position = cond (leb count i) (ruling.Refused (refusal 13)) ruling.Accepted
 
-  task-by-method : unlessRefused ruling.Refused (methodRuling m read) position ≡ taskRuling m i read count
+  task-by-method : unless_refused ruling.Refused (method_ruling m read) position ≡ task_ruling m i read count
   task-by-method = go (ltb 5 m)
     where
-      go : (t : Bool) → unlessRefused ruling.Refused (cond t (ruling.Refused (refusal 12)) read) position
-          ≡ cond t (ruling.Refused (refusal 12)) (unlessRefused ruling.Refused read position)
+      go : (t : Bool) → unless_refused ruling.Refused (cond t (ruling.Refused (refusal 12)) read) position
+          ≡ cond t (ruling.Refused (refusal 12)) (unless_refused ruling.Refused read position)
       go true = refl
       go false = refl
 
-  pub task-ruled : (v w : Ruling) → v ≡ methodRuling m read → v ≡ w → unlessRefused ruling.Refused w position ≡ taskRuling m i read count
+  pub task-ruled : (v w : Ruling) → v ≡ method_ruling m read → v ≡ w → unless_refused ruling.Refused w position ≡ task_ruling m i read count
   task-ruled v w ruled e = rw (← e, ruled) task-by-method
 
-  pub past-ruled : (v : Ruling) → v ≡ methodRuling m read → v ≡ ruling.Accepted → count ≤ i → ruling.Refused (refusal 13) ≡ taskRuling m i read count
+  pub past-ruled : (v : Ruling) → v ≡ method_ruling m read → v ≡ ruling.Accepted → count ≤ i → ruling.Refused (refusal 13) ≡ task_ruling m i read count
   past-ruled v ruled e h = let p : ruling.Refused (refusal 13) ≡ position = rw (le-leb count i h) refl in p ∙ task-ruled v ruling.Accepted ruled e
 
-  pub held-ruled : (v : Ruling) → v ≡ methodRuling m read → v ≡ ruling.Accepted → i < count → ruling.Accepted ≡ taskRuling m i read count
+  pub held-ruled : (v : Ruling) → v ≡ method_ruling m read → v ≡ ruling.Accepted → i < count → ruling.Accepted ≡ task_ruling m i read count
   held-ruled v ruled e h = let p : ruling.Accepted ≡ position = rw (lt-leb count i h) refl in p ∙ task-ruled v ruling.Accepted ruled e
 
 -- what holds of each ruling where it is given
 module _ (P : Ruling → Type 0) (m i : ℕ) (read : Ruling) (count : ℕ) (method-refused : P (ruling.Refused (refusal 12)))
     (text-refused : (r : Refusal) → read ≡ ruling.Refused r → P (ruling.Refused r)) (position-refused : P (ruling.Refused (refusal 13)))
     (accepted : Allowed m i read count → P ruling.Accepted) where
-  pub task-ruling-by : P (taskRuling m i read count)
+  pub task-ruling-by : P (task_ruling m i read count)
   task-ruling-by = method (ltb 5 m) refl
     where
       position : m ≤ 5 → read ≡ ruling.Accepted → (t : Bool) → leb count i ≡ t → P (cond t (ruling.Refused (refusal 13)) ruling.Accepted)
       position h e true l = position-refused
       position h e false l = accepted (record { method = h; accepted = e; held = leb-false count i l })
 
-      text : m ≤ 5 → (v : Ruling) → read ≡ v → P (unlessRefused ruling.Refused v (cond (leb count i) (ruling.Refused (refusal 13)) ruling.Accepted))
+      text : m ≤ 5 → (v : Ruling) → read ≡ v → P (unless_refused ruling.Refused v (cond (leb count i) (ruling.Refused (refusal 13)) ruling.Accepted))
       text h ruling.Accepted e = position h e (leb count i) refl
       text h (ruling.Refused r) e = text-refused r e
 
       method : (t : Bool) → ltb 5 m ≡ t
-          → P (cond t (ruling.Refused (refusal 12)) (unlessRefused ruling.Refused read (cond (leb count i) (ruling.Refused (refusal 13)) ruling.Accepted)))
+          → P (cond t (ruling.Refused (refusal 12)) (unless_refused ruling.Refused read (cond (leb count i) (ruling.Refused (refusal 13)) ruling.Accepted)))
       method true l = method-refused
       method false l = text (ltb-false 5 m l) read refl
 
-pub task-ruling-accepted : (m i : ℕ) (read : Ruling) (count : ℕ) → taskRuling m i read count ≡ ruling.Accepted → Allowed m i read count
+pub task-ruling-accepted : (m i : ℕ) (read : Ruling) (count : ℕ) → task_ruling m i read count ≡ ruling.Accepted → Allowed m i read count
 task-ruling-accepted m i read count =
     task-ruling-by (λ v. v ≡ ruling.Accepted → Allowed m i read count) m i read count (refused _) (λ r _. refused r) (refused _) (λ a _. a)
   where
@@ -100,49 +100,49 @@ task-ruling-accepted m i read count =
 
 -- one answer is refused as an explanation is, before the buffer is looked at
 module _ (m i count : ℕ) (reply : Reply) where
-  reply-position : (t : Bool) → unlessRefused Refused (cond t (ruling.Refused (refusal 13)) ruling.Accepted) reply ≡ cond t (Refused (refusal 13)) reply
+  reply-position : (t : Bool) → unless_refused Refused (cond t (ruling.Refused (refusal 13)) ruling.Accepted) reply ≡ cond t (Refused (refusal 13)) reply
   reply-position true = refl
   reply-position false = refl
 
-  reply-text : (v : Ruling) → unlessRefused Refused (unlessRefused ruling.Refused v (cond (leb count i) (ruling.Refused (refusal 13)) ruling.Accepted)) reply
-      ≡ unlessRefused Refused v (cond (leb count i) (Refused (refusal 13)) reply)
+  reply-text : (v : Ruling) → unless_refused Refused (unless_refused ruling.Refused v (cond (leb count i) (ruling.Refused (refusal 13)) ruling.Accepted)) reply
+      ≡ unless_refused Refused v (cond (leb count i) (Refused (refusal 13)) reply)
   reply-text ruling.Accepted = reply-position (leb count i)
   reply-text (ruling.Refused r) = refl
 
   reply-method : (v : Ruling) (t : Bool)
-      → unlessRefused Refused (cond t (ruling.Refused (refusal 12)) (unlessRefused ruling.Refused v (cond (leb count i) (ruling.Refused (refusal 13)) ruling.Accepted))) reply
-      ≡ cond t (Refused (refusal 12)) (unlessRefused Refused v (cond (leb count i) (Refused (refusal 13)) reply))
+      → unless_refused Refused (cond t (ruling.Refused (refusal 12)) (unless_refused ruling.Refused v (cond (leb count i) (ruling.Refused (refusal 13)) ruling.Accepted))) reply
+      ≡ cond t (Refused (refusal 12)) (unless_refused Refused v (cond (leb count i) (Refused (refusal 13)) reply))
   reply-method v true = refl
   reply-method v false = reply-text v
 
 module _ (text : List ℕ) (m i : ℕ) where
-  pub answer-by-ruling : unlessRefused Refused (taskRulingOf text m i) (replyOf (responseOf (readText text).table m i)) ≡ answerTo text m i
-  unfolding taskRulingOf answerTo
-  answer-by-ruling = reply-method m i (readText text).table.count (replyOf (responseOf (readText text).table m i)) (readText text).ruling (ltb 5 m)
+  pub answer-by-ruling : unless_refused Refused (task_ruling_of text m i) (reply_of (response_of (read_text text).table m i)) ≡ answer_to text m i
+  unfolding task_ruling_of answer_to
+  answer-by-ruling = reply-method m i (read_text text).table.count (reply_of (response_of (read_text text).table m i)) (read_text text).ruling (ltb 5 m)
 
-  pub answer-ruled : (v : Ruling) → taskRulingOf text m i ≡ v → unlessRefused Refused v (replyOf (responseOf (readText text).table m i)) ≡ answerTo text m i
+  pub answer-ruled : (v : Ruling) → task_ruling_of text m i ≡ v → unless_refused Refused v (reply_of (response_of (read_text text).table m i)) ≡ answer_to text m i
   answer-ruled v e = rw (← e) answer-by-ruling
 
 -- ---- a text that was read
 
-module _ (text : List ℕ) (o : Outcome) (read : o ≡ readText text) where
-  pub ruling-is : (v : Ruling) → o.ruling ≡ v → (readText text).ruling ≡ v
+module _ (text : List ℕ) (o : Outcome) (read : o ≡ read_text text) where
+  pub ruling-is : (v : Ruling) → o.ruling ≡ v → (read_text text).ruling ≡ v
   ruling-is v e = ap (λ (o : Outcome). o.ruling) (sym read) ∙ e
 
   pub outcome-accepted : o.ruling ≡ ruling.Accepted → AcceptedTable o.table
   outcome-accepted e = rw read (accepted-table text (ruling-is ruling.Accepted e))
 
-  pub report-accepted : (out : List ℕ) (w : Written) (after : List ℕ) → o.ruling ≡ ruling.Accepted → Reported o.table (responseOf o.table) out w after
+  pub report-accepted : (out : List ℕ) (w : Written) (after : List ℕ) → o.ruling ≡ ruling.Accepted → Reported o.table (response_of o.table) out w after
       → TextReported text out w after
   report-accepted out w after e d = text-accepted (ruling-is ruling.Accepted e) (rw read at d.delivered) (rw read at d.short)
 
   -- of one task
-  module _ (m i : ℕ) (v : Ruling) (ruled : v ≡ taskRuling m i o.ruling o.table.count) where
-    task-ruling-is : taskRulingOf text m i ≡ v
-    unfolding taskRulingOf
+  module _ (m i : ℕ) (v : Ruling) (ruled : v ≡ task_ruling m i o.ruling o.table.count) where
+    task-ruling-is : task_ruling_of text m i ≡ v
+    unfolding task_ruling_of
     task-ruling-is = rw (← read) (sym ruled)
 
-    pub answer-refused : (r : Refusal) → v ≡ ruling.Refused r → Refused r ≡ answerTo text m i
+    pub answer-refused : (r : Refusal) → v ≡ ruling.Refused r → Refused r ≡ answer_to text m i
     answer-refused r e = answer-ruled text m i (ruling.Refused r) (task-ruling-is ∙ e)
 
     pub explain-refused : (r : Refusal) (out : List ℕ) → v ≡ ruling.Refused r → TextExplained text m i out (written.Refused r) out
@@ -154,7 +154,7 @@ module _ (text : List ℕ) (o : Outcome) (read : o ≡ readText text) where
           let a = task-ruling-accepted m i o.ruling o.table.count (sym ruled ∙ e) in
           record { method = a.method; held = a.held; accepted = outcome-accepted a.accepted }
 
-      pub answer-accepted : replyOf (responseOf o.table m i) ≡ answerTo text m i
+      pub answer-accepted : reply_of (response_of o.table m i) ≡ answer_to text m i
       answer-accepted = rw read (answer-ruled text m i ruling.Accepted (task-ruling-is ∙ e))
 
       pub explain-accepted : (out : List ℕ) (w : Written) (after : List ℕ) → Explained o.table m i out w after → TextExplained text m i out w after
@@ -164,28 +164,28 @@ module _ (text : List ℕ) (o : Outcome) (read : o ≡ readText text) where
 
 module _ (text out : List ℕ) (w : Written) (after : List ℕ) (room : 2746 ≤ length out) (r : TextReported text out w after) where
   -- the report of an accepted text fits
-  fits : (readText text).ruling ≡ ruling.Accepted → (w ≡ written.Length (length (reportIn (readText text).table))) × Wrote out 0 (reportIn (readText text).table) after (length (reportIn (readText text).table))
+  fits : (read_text text).ruling ≡ ruling.Accepted → (w ≡ written.Length (length (report_in (read_text text).table))) × Wrote out 0 (report_in (read_text text).table) after (length (report_in (read_text text).table))
   fits e = fitting (omega (arith, r.short e)) (record { answer = rw e at r.answer-is; buffer = rw e at r.buffer-is })
 
   pub printed-report : (n : ℕ) → w ≡ written.Length n → Wrote out 0 (printed text) after n
   unfolding printed
-  printed-report n is = go (readText text).ruling refl
+  printed-report n is = go (read_text text).ruling refl
     where
-      go : (v : Ruling) → (readText text).ruling ≡ v → Wrote out 0 (printedOf (readText text).ruling (reportIn (readText text).table)) after n
+      go : (v : Ruling) → (read_text text).ruling ≡ v → Wrote out 0 (printed_of (read_text text).ruling (report_in (read_text text).table)) after n
       go ruling.Accepted e =
           let f = fits e in
-          let same : length (reportIn (readText text).table) ≡ n = cc in
+          let same : length (report_in (read_text text).table) ≡ n = cc in
           rw e (rw same at f.1)
       go (ruling.Refused q) e =
           let d : w ≡ written.Refused q = rw e at r.answer-is in
           let z : ◌≡◌ {A = ℕ} 0 1 = cc in
           absurd (omega arith)
 
-  pub printed-error : (q : Refusal) (last : List ℕ) (n : ℕ) → w ≡ written.Refused q → Wrote after 0 (errorText q) last n → Wrote out 0 (printed text) last n
+  pub printed-error : (q : Refusal) (last : List ℕ) (n : ℕ) → w ≡ written.Refused q → Wrote after 0 (error_text q) last n → Wrote out 0 (printed text) last n
   unfolding printed
-  printed-error q last n is wrote = go (readText text).ruling refl
+  printed-error q last n is wrote = go (read_text text).ruling refl
     where
-      go : (v : Ruling) → (readText text).ruling ≡ v → Wrote out 0 (printedOf (readText text).ruling (reportIn (readText text).table)) last n
+      go : (v : Ruling) → (read_text text).ruling ≡ v → Wrote out 0 (printed_of (read_text text).ruling (report_in (read_text text).table)) last n
       go ruling.Accepted e =
           let f = fits e in
           let z : ◌≡◌ {A = ℕ} 0 1 = cc in

@@ -5,26 +5,26 @@ use mathlib.Core.Path.{◌≡◌, refl}
 use mathlib.Core.List.{List, [], ◌∷◌, flat_map}
 use mathlib.Core.Option.{bind}
 use Prim.Native.Nat.{ℕ}
-use Rattle.fields.specs.Bytes.{everyByte, sameBytes}
-use Rattle.text.specs.Cut.{up_to, after, occurrences, pastTabs, field, lines}
-use Rattle.fields.specs.Fields.{readDigits, readNumber, hasShape, isName}
-use Rattle.hex.specs.Hex.{hexDigit, readHex}
-use Rattle.sets.specs.Field.{readSet}
-use Rattle.sets.specs.Sets.{∅, ◌∪◌, ◌∩◌, sizeBelow, size}
+use Rattle.fields.specs.Bytes.{every_byte, same_bytes}
+use Rattle.text.specs.Cut.{up_to, after, occurrences, past_tabs, field, lines}
+use Rattle.fields.specs.Fields.{read_digits, read_number, has_shape, is_name}
+use Rattle.hex_digits.specs.Hex.{hex_digit, read_hex}
+use Rattle.sets.specs.Field.{read_set}
+use Rattle.sets.specs.Sets.{∅, ◌∪◌, ◌∩◌, size_below, size}
 use Rattle.sets.specs.Words.{number_of, members, words_of}
-use Rattle.tasks.specs.Said.{headSaid, timesSaid, fieldsSaid, taskSaid}
-use Rattle.faults.specs.Faults.{firstFault, textFault, headInRange, headFault, taskInRange, taskInOrder, knows, taskFault, endFault, blockedFault}
-use Rattle.table.specs.Reading.{lineFault, withLine, readFrom, readLines, readText}
-use Rattle.table.specs.Tasks.{at, withTask}
-use Rattle.demand.specs.Demand.{demandOf}
-use Rattle.demand.specs.Least.{first_of, leastOf}
+use Rattle.tasks.specs.Said.{head_said, times_said, fields_said, task_said}
+use Rattle.faults.specs.Faults.{first_fault, text_fault, head_in_range, head_fault, task_in_range, task_in_order, knows, task_fault, end_fault, blocked_fault}
+use Rattle.table.specs.Reading.{line_fault, with_line, read_from, read_lines, read_text}
+use Rattle.table.specs.Tasks.{at, with_task}
+use Rattle.demand.specs.Demand.{demand_of}
+use Rattle.demand.specs.Least.{first_of, least_of}
 use Rattle.demand.specs.Positions.{run, fold}
 use Rattle.accesses.specs.Accesses.{blocking}
-use Rattle.costs.specs.Costs.{reloadsWith}
-use Rattle.analysis.specs.Analysis.{answer_of, responseOf}
-use Rattle.writer.specs.Text.{digitsOf, spelled}
-use Rattle.verdicts.specs.Verdicts.{verdictLine}
-use Rattle.report.specs.Report.{responseLine, reportOf}
+use Rattle.costs.specs.Costs.{reloads_with}
+use Rattle.analysis.specs.Analysis.{answer_of, response_of}
+use Rattle.writer.specs.Text.{digits_of, spelled}
+use Rattle.verdicts.specs.Verdicts.{verdict_line}
+use Rattle.report.specs.Report.{response_line, report_of}
 use Rattle.crpd.specs.Operations.{printed}
 
 -- K 4 1; T a 1 20 20 0 0 0 f; T b 2 40 40 0 0 3 f; T c 2 60 60 0 0 c f
@@ -41,5 +41,5 @@ pub printed-of-table-a : printed text ≡
     82 ∷ 9 ∷ 98 ∷ 9 ∷ 52 ∷ 48 ∷ 9 ∷ 51 ∷ 9 ∷ 55 ∷ 9 ∷ 53 ∷ 9 ∷ 53 ∷ 9 ∷ 53 ∷ 9 ∷ 53 ∷ 10 ∷
     82 ∷ 9 ∷ 99 ∷ 9 ∷ 54 ∷ 48 ∷ 9 ∷ 53 ∷ 9 ∷ 49 ∷ 51 ∷ 9 ∷ 57 ∷ 9 ∷ 49 ∷ 49 ∷ 9 ∷ 57 ∷ 9 ∷ 57 ∷ 10 ∷
     86 ∷ 9 ∷ 121 ∷ 101 ∷ 115 ∷ 9 ∷ 121 ∷ 101 ∷ 115 ∷ 9 ∷ 121 ∷ 101 ∷ 115 ∷ 9 ∷ 121 ∷ 101 ∷ 115 ∷ 9 ∷ 121 ∷ 101 ∷ 115 ∷ 9 ∷ 121 ∷ 101 ∷ 115 ∷ 10 ∷ []
-unfolding printed everyByte sameBytes up_to after occurrences pastTabs field lines readDigits readNumber hasShape isName hexDigit readHex bind readSet ∅ ◌∪◌ ◌∩◌ sizeBelow size number_of members words_of firstFault textFault headInRange headFault taskInRange taskInOrder knows taskFault endFault blockedFault lineFault withLine readFrom readLines readText headSaid timesSaid fieldsSaid taskSaid at withTask demandOf first_of leastOf run fold blocking reloadsWith answer_of responseOf digitsOf spelled flat_map responseLine verdictLine reportOf
+unfolding printed every_byte same_bytes up_to after occurrences past_tabs field lines read_digits read_number has_shape is_name hex_digit read_hex bind read_set ∅ ◌∪◌ ◌∩◌ size_below size number_of members words_of first_fault text_fault head_in_range head_fault task_in_range task_in_order knows task_fault end_fault blocked_fault line_fault with_line read_from read_lines read_text head_said times_said fields_said task_said at with_task demand_of first_of least_of run fold blocking reloads_with answer_of response_of digits_of spelled flat_map response_line verdict_line report_of
 printed-of-table-a = refl

@@ -1,7 +1,7 @@
 // The operations for programs in other languages: byte slices and numbers in, one number out. specs/Codes.antt says what the number means.
 ghost use Rattle.std.specs.Prelude.{◌≡◌};
-ghost use Rattle.crpd.specs.Operations.{answerTo, growthTo, printed};
-ghost use Rattle.crpd.specs.Codes.{SmallRefusal, refusalCode, SmallWritten, writtenCode, answerCode, factorCode, ReportCoded, ExplanationCoded, RewriteCoded, ScaledCoded, DeliveryCoded};
+ghost use Rattle.crpd.specs.Operations.{answer_to, growth_to, printed};
+ghost use Rattle.crpd.specs.Codes.{SmallRefusal, refusal_code, SmallWritten, written_code, answer_code, factor_code, ReportCoded, ExplanationCoded, RewriteCoded, ScaledCoded, DeliveryCoded};
 
 use crate::{Factor, Reply, answer, explain, growth, print, report, rewrite, scaled};
 use delivery::{Written, deliver};
@@ -9,14 +9,14 @@ use table::Refusal;
 
 fn refusal_code(refusal: Refusal) -> u64
     requires { SmallRefusal refusal }
-    ensures { result ≡ refusalCode refusal }
+    ensures { result ≡ refusal_code refusal }
 {
     refusal.number * 4294967296 + refusal.line
 }
 
 pub fn written_code(written: Written) -> u64
     requires { SmallWritten written }
-    ensures { result ≡ writtenCode written }
+    ensures { result ≡ written_code written }
 {
     match written {
         Written::Length(len) => len as u64,
@@ -27,7 +27,7 @@ pub fn written_code(written: Written) -> u64
 // The response of the task at a position under a method, in ticks; 0 where it has none.
 #[unsafe(no_mangle)]
 pub extern "C" fn crpd_answer(text: &[u8], method: u64, position: u64) -> u64
-    ensures { result ≡ answerCode (answerTo text.now method position) }
+    ensures { result ≡ answer_code (answer_to text.now method position) }
 {
     match answer(text, method, position) {
         Reply::Within(time) => time.0,
@@ -63,7 +63,7 @@ pub extern "C" fn crpd_rewrite(text: &[u8], out: &mut [u8]) -> u64
 // How much growth is left under a method, in thousandths; 0 where no k passes.
 #[unsafe(no_mangle)]
 pub extern "C" fn crpd_growth(text: &[u8], method: u64) -> u64
-    ensures { result ≡ factorCode (growthTo text.now method) }
+    ensures { result ≡ factor_code (growth_to text.now method) }
 {
     match growth(text, method) {
         Factor::Thousandths(k) => k,

@@ -6,9 +6,9 @@ pub mod exported;
 ghost use Rattle.std.specs.Prelude.{◌≡◌};
 ghost use Rattle.table.specs.Accepted.{AcceptedTable};
 ghost use Rattle.writer.specs.Wrote.{Wrote};
-ghost use Rattle.analysis.specs.Analysis.{responseOf};
+ghost use Rattle.analysis.specs.Analysis.{response_of};
 ghost use Rattle.report.specs.Reported.{Reported};
-ghost use Rattle.crpd.specs.Operations.{replyOf, taskRuling, answerTo, TextReported, TextExplained, TableWritten, TextRewritten, methodRuling, growthTo, TextScaled, printed};
+ghost use Rattle.crpd.specs.Operations.{reply_of, task_ruling, answer_to, TextReported, TextExplained, TableWritten, TextRewritten, method_ruling, growth_to, TextScaled, printed};
 
 use delivery::Written;
 use demand::Response;
@@ -31,7 +31,7 @@ pub enum Factor {
 }
 
 fn reply_of(response: Response) -> Reply
-    ensures { result ≡ replyOf response }
+    ensures { result ≡ reply_of response }
 {
     match response {
         Response::Within(time) => Reply::Within(time),
@@ -41,7 +41,7 @@ fn reply_of(response: Response) -> Reply
 
 // The ruling where a text that was read is asked for under a method.
 fn method_ruling(method: u64, read: Ruling) -> Ruling
-    ensures { result ≡ methodRuling method read }
+    ensures { result ≡ method_ruling method read }
 {
     if 5 < method {
         return Ruling::Refused(Refusal {
@@ -54,7 +54,7 @@ fn method_ruling(method: u64, read: Ruling) -> Ruling
 
 // The ruling where the task at a position is asked for under a method, of a text that was read and has so many tasks.
 fn task_ruling(method: u64, position: u64, read: Ruling, count: usize) -> Ruling
-    ensures { result ≡ taskRuling method position read count }
+    ensures { result ≡ task_ruling method position read count }
 {
     let ruling = method_ruling(method, read);
     if let Ruling::Refused(refusal) = ruling {
@@ -71,7 +71,7 @@ fn task_ruling(method: u64, position: u64, read: Ruling, count: usize) -> Ruling
 
 // The answer for the task at a position under a method.
 pub fn answer(text: &[u8], method: u64, position: u64) -> Reply
-    ensures { result ≡ answerTo text.now method position }
+    ensures { result ≡ answer_to text.now method position }
 {
     let outcome = table::read(text);
     let read = outcome.ruling;
@@ -85,7 +85,7 @@ pub fn answer(text: &[u8], method: u64, position: u64) -> Reply
 
 fn report_in(table: Table, out: &mut [u8]) -> Written
     requires { AcceptedTable table }
-    ensures { Reported table (responseOf table) out.old result out.new }
+    ensures { Reported table (response_of table) out.old result out.new }
 {
     report::report(table, rows::responses(table), out)
 }
@@ -145,7 +145,7 @@ pub fn rewrite(text: &[u8], out: &mut [u8]) -> Written
 
 // How much growth is left under a method.
 pub fn growth(text: &[u8], method: u64) -> Factor
-    ensures { result ≡ growthTo text.now method }
+    ensures { result ≡ growth_to text.now method }
 {
     let outcome = table::read(text);
     let read = outcome.ruling;

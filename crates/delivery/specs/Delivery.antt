@@ -10,9 +10,9 @@ written_of text before =
     cond (leb (length text) (length before)) (Length (length text)) (Refused (refusal 14))
 
 -- the text at the buffer's start, and after it the buffer as it was; where it is refused, all of the buffer as it was
-abbrev pub bufferOf : List ℕ → List ℕ → List ℕ
-bufferOf text before = cond (leb (length text) (length before)) (text ++ drop (length text) before) before
+abbrev pub buffer_of : List ℕ → List ℕ → List ℕ
+buffer_of text before = cond (leb (length text) (length before)) (text ++ drop (length text) before) before
 
 pub record Delivered (text before : List ℕ) (written : Written) (after : List ℕ) : Type 0 where
   pub answer : written ≡ written_of text before
-  pub buffer : after ≡ bufferOf text before
+  pub buffer : after ≡ buffer_of text before

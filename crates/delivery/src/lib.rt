@@ -2,7 +2,7 @@
 ghost use Rattle.std.specs.Prelude.{◌≤◌, length};
 ghost use Rattle.writer.specs.Wrote.{Wrote};
 ghost use Rattle.delivery.specs.Delivery.{Delivered};
-ghost use Rattle.delivery.specs.Error.{errorText};
+ghost use Rattle.delivery.specs.Error.{error_text};
 
 use table::Refusal;
 use writer::{put_byte, put_bytes, put_number_field};
@@ -30,7 +30,7 @@ pub fn deliver(text: &[u8], out: &mut [u8]) -> Written
 // The line of a refusal: at most 44 bytes, since a number of 64 bits has at most 20 digits.
 pub fn put_error(out: &mut [u8], e: Refusal) -> usize
     requires { 44 ≤ length out.old }
-    ensures { Wrote out.old 0 (errorText e) out.new result }
+    ensures { Wrote out.old 0 (error_text e) out.new result }
 {
     let start = put_byte(out, 0, b'E');
     let numbered = put_number_field(out, start, e.number);

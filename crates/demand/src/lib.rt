@@ -1,9 +1,9 @@
 // The demand of a task, and the smallest time that equals it. specs/Demand.antt says what a demand is, specs/Terms.antt how its terms are
 // lent, and specs/Least.antt what the smallest solution is.
 ghost use Rattle.std.specs.Prelude.{◌≡◌, ◌-◌, ◌≤◌};
-ghost use Rattle.demand.specs.Demand.{termOf, workOf, demandOf};
-ghost use Rattle.demand.specs.Terms.{termIn, InRange, Handed};
-ghost use Rattle.demand.specs.Least.{leastOf, toldOf, sooner, later, Reached};
+ghost use Rattle.demand.specs.Demand.{term_of, work_of, demand_of};
+ghost use Rattle.demand.specs.Terms.{term_in, InRange, Handed};
+ghost use Rattle.demand.specs.Least.{least_of, told_of, sooner, later, Reached};
 
 use units::Ticks;
 
@@ -31,15 +31,15 @@ pub const JITTERS: usize = 32;
 
 // What one task of higher priority asks for in `r` ticks.
 pub fn work(period: u64, jitter: u64, weight: u64, r: u64) -> u64
-    requires { (r ≤ 250000000) × InRange (termOf period jitter weight) }
-    ensures { (result ≡ workOf r (termOf period jitter weight)) × (result ≤ 250000000000000000) }
+    requires { (r ≤ 250000000) × InRange (term_of period jitter weight) }
+    ensures { (result ≡ work_of r (term_of period jitter weight)) × (result ≤ 250000000000000000) }
 {
     (r + jitter + (period - 1)) / period * weight
 }
 
 // The answer that a number of ticks tells.
 pub fn told(ticks: u64) -> Response
-    ensures { result ≡ toldOf ticks }
+    ensures { result ≡ told_of ticks }
 {
     if ticks == 0 {
         Response::Unschedulable
@@ -63,7 +63,7 @@ pub fn combined(a: Response, b: Response) -> Response
 
 // The later of two answers in ticks. Where one has no response time, 0, there is none.
 pub fn later(a: u64, b: u64) -> u64
-    ensures { toldOf result ≡ later (toldOf a) (toldOf b) }
+    ensures { told_of result ≡ later (told_of a) (told_of b) }
 {
     if a == 0 {
         return 0;

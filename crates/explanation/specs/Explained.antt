@@ -11,12 +11,12 @@ use Rattle.analysis.specs.Analysis.{Answerable, Blocks}
 use Rattle.need.specs.declared.Need.{Need}
 use Rattle.delivery.specs.declared.Written.{Written}
 use Rattle.delivery.specs.Delivery.{Delivered}
-use Rattle.explanation.specs.Explanation.{explanationOf}
+use Rattle.explanation.specs.Explanation.{explanation_of}
 
 -- the explanation is delivered, and it is never longer than 1,317 bytes
 pub record Explained (table : Table) (m i : ℕ) (before : List ℕ) (written : Written) (after : List ℕ) : Type 0 where
-  pub delivered : Delivered (explanationOf table m i) before written after
-  pub short : length (explanationOf table m i) ≤ 1317
+  pub delivered : Delivered (explanation_of table m i) before written after
+  pub short : length (explanation_of table m i) ≤ 1317
 
 -- a need of a task: no method but 0 to 4 is explained, what is needed is in range, and so is for how long the task is blocked
 pub record NeedInRange (need : Need) : Type 0 where
@@ -33,9 +33,9 @@ pub record Timed (t : Task) : Type 0 where
   pub jitter : t.jitter.0 ≤ t.deadline.0
 
 -- the position of a charge's victim, or another where it has none
-abbrev pub victimIn : ℕ → Charge → ℕ
-victimIn none (Victim h) = h.victim
-victimIn none (NoVictim n) = none
+abbrev pub victim_in : ℕ → Charge → ℕ
+victim_in none (Victim h) = h.victim
+victim_in none (NoVictim n) = none
 
 -- what blocks the task at i in an explanation: an access that may, of a task of the table
 pub record Blocker (table : Table) (i : ℕ) (a : Access) : Type 0 where

@@ -6,61 +6,61 @@ use Rattle.demand.specs.declared.Response.TheVariants.{Within, Unschedulable}
 use Rattle.demand.specs.Positions.{hp}
 use Rattle.demand.specs.Demand.{ceil}
 use Rattle.tasks.specs.declared.Task.{Task}
-use Rattle.tasks.specs.Tasks.{nameText, limitOf}
+use Rattle.tasks.specs.Tasks.{name_text, limit_of}
 use Rattle.accesses.specs.declared.Access.{Access}
 use Rattle.table.specs.declared.Table.{Table}
 use Rattle.table.specs.Tasks.{at}
 use Rattle.costs.specs.declared.Charge.{Charge}
 use Rattle.costs.specs.declared.Charge.TheVariants.{Victim, NoVictim}
-use Rattle.costs.specs.Costs.{reloadsIn, chargeUnder}
+use Rattle.costs.specs.Costs.{reloads_in, charge_under}
 use Rattle.need.specs.declared.Need.{Need}
 use Rattle.need.specs.Needs.{need_of}
 use Rattle.writer.specs.Text.{spelled, line_of}
 
 -- what is needed, or `beyond`
-abbrev pub neededText : Response → List ℕ
-neededText (Within R) = spelled R.0
-neededText Unschedulable = 98 ∷ 101 ∷ 121 ∷ 111 ∷ 110 ∷ 100 ∷ []
+abbrev pub needed_text : Response → List ℕ
+needed_text (Within R) = spelled R.0
+needed_text Unschedulable = 98 ∷ 101 ∷ 121 ∷ 111 ∷ 110 ∷ 100 ∷ []
 
 -- the first line: `X`, name, method explained, need, D − J, C, and as B how long the task is blocked
-unfoldable pub needLine : Task → Need → List ℕ
-needLine t need =
+unfoldable pub need_line : Task → Need → List ℕ
+need_line t need =
     line_of (88 ∷ [])
-    (nameText t.name
+    (name_text t.name
     ∷ spelled need.method
-    ∷ neededText need.time
-    ∷ spelled (limitOf t)
+    ∷ needed_text need.time
+    ∷ spelled (limit_of t)
     ∷ spelled t.work.0
     ∷ spelled need.blocker.lasts.0
     ∷ [])
 
 -- how often a task is activated in R ticks
-abbrev pub activationsIn : ℕ → Task → ℕ
-activationsIn R t = ceil (R + t.jitter.0) t.period.0
+abbrev pub activations_in : ℕ → Task → ℕ
+activations_in R t = ceil (R + t.jitter.0) t.period.0
 
 -- the name of the task at a position
 abbrev pub name_at : Table → ℕ → List ℕ
-name_at table k = nameText (at table k).name
+name_at table k = name_text (at table k).name
 
 -- the name of the victim, where `names` has that of each position, or `-` where there is no victim
-abbrev pub victimText : (ℕ → List ℕ) → Charge → List ℕ
-victimText names (Victim h) = names h.victim
-victimText names (NoVictim n) = 45 ∷ []
+abbrev pub victim_text : (ℕ → List ℕ) → Charge → List ℕ
+victim_text names (Victim h) = names h.victim
+victim_text names (NoVictim n) = 45 ∷ []
 
 -- the line of a task above: `I`, name, activations in R ticks, and the reloads that each is charged with their victim
-unfoldable pub reasonLine : (ℕ → List ℕ) → ℕ → Task → Charge → List ℕ
-reasonLine names R t charge =
-    line_of (73 ∷ []) (nameText t.name ∷ spelled (activationsIn R t) ∷ spelled (reloadsIn charge) ∷ victimText names charge ∷ [])
+unfoldable pub reason_line : (ℕ → List ℕ) → ℕ → Task → Charge → List ℕ
+reason_line names R t charge =
+    line_of (73 ∷ []) (name_text t.name ∷ spelled (activations_in R t) ∷ spelled (reloads_in charge) ∷ victim_text names charge ∷ [])
 
 -- the lines of the tasks above i under method m while an access blocks i, from position 0 down; none where the need is beyond
-abbrev pub reasonLines : Table → Access → ℕ → ℕ → Response → List ℕ
-reasonLines table a m i (Within R) = flat_map (λ j. reasonLine (name_at table) R.0 (at table j) (chargeUnder table a m i j)) (hp i)
-reasonLines table a m i Unschedulable = []
+abbrev pub reason_lines : Table → Access → ℕ → ℕ → Response → List ℕ
+reason_lines table a m i (Within R) = flat_map (λ j. reason_line (name_at table) R.0 (at table j) (charge_under table a m i j)) (hp i)
+reason_lines table a m i Unschedulable = []
 
 -- the explanation of what the task at i needs
-abbrev pub explanationBy : Table → ℕ → Need → List ℕ
-explanationBy table i need = needLine (at table i) need ++ reasonLines table need.blocker need.method i need.time
+abbrev pub explanation_by : Table → ℕ → Need → List ℕ
+explanation_by table i need = need_line (at table i) need ++ reason_lines table need.blocker need.method i need.time
 
 -- the explanation of what method m answers for the task at i
-unfoldable pub explanationOf : Table → ℕ → ℕ → List ℕ
-explanationOf table m i = explanationBy table i (need_of table m i)
+unfoldable pub explanation_of : Table → ℕ → ℕ → List ℕ
+explanation_of table m i = explanation_by table i (need_of table m i)

@@ -1,8 +1,8 @@
 // When a text or one of its lines is refused: the number of the first refusal that applies.
 // specs/Faults.antt has the refusals as rows.
 ghost use Rattle.std.specs.Prelude.{◌≡◌, ◌≤◌, take, false};
-ghost use Rattle.fields.specs.Bytes.{sameBytes};
-ghost use Rattle.faults.specs.Faults.{isEnded, textFault, isWithin, headInRange, headFault, taskInRange, taskInOrder, knows, position_of, taskFault, firstBlocked, blockedFault};
+ghost use Rattle.fields.specs.Bytes.{same_bytes};
+ghost use Rattle.faults.specs.Faults.{is_ended, text_fault, is_within, head_in_range, head_fault, task_in_range, task_in_order, knows, position_of, task_fault, first_blocked, blocked_fault};
 
 use tasks::{HeadLine, Name, Task, TaskLine};
 
@@ -15,7 +15,7 @@ pub enum Finding {
 
 // Whether the last byte is LF.
 fn is_ended(input: &[u8]) -> bool
-    ensures { result ≡ isEnded input.now }
+    ensures { result ≡ is_ended input.now }
 {
     let n = input.len();
     if 0 < n { input[n - 1] == b'\n' } else { false }
@@ -23,7 +23,7 @@ fn is_ended(input: &[u8]) -> bool
 
 // The first refusal of the whole text, before its lines.
 pub fn text_fault(input: &[u8]) -> Finding
-    ensures { result ≡ textFault input.now }
+    ensures { result ≡ text_fault input.now }
 {
     if 16384 < input.len() {
         return Finding::Fault(1);
@@ -36,20 +36,20 @@ pub fn text_fault(input: &[u8]) -> Finding
 
 // Whether a number lies from `low` to `high`.
 pub fn is_within(low: u64, high: u64, n: u64) -> bool
-    ensures { result ≡ isWithin low high n }
+    ensures { result ≡ is_within low high n }
 {
     (low <= n) & (n <= high)
 }
 
 fn head_in_range(said: HeadLine) -> bool
-    ensures { result ≡ headInRange said }
+    ensures { result ≡ head_in_range said }
 {
     is_within(4, 256, said.sets) & (said.sets % 4 == 0) & is_within(0, 100000, said.brt)
 }
 
 // The first refusal of line 1.
 pub fn head_fault(said: HeadLine) -> Finding
-    ensures { result ≡ headFault said }
+    ensures { result ≡ head_fault said }
 {
     if !said.shaped {
         return Finding::Fault(3);
@@ -64,7 +64,7 @@ pub fn head_fault(said: HeadLine) -> Finding
 }
 
 fn task_in_range(t: Task) -> bool
-    ensures { result ≡ taskInRange t }
+    ensures { result ≡ task_in_range t }
 {
     is_within(1, 250000000, t.work.0)
         & is_within(1, 250000000, t.period.0)
@@ -74,13 +74,13 @@ fn task_in_range(t: Task) -> bool
 }
 
 fn task_in_order(t: Task) -> bool
-    ensures { result ≡ taskInOrder t }
+    ensures { result ≡ task_in_order t }
 {
     (t.jitter.0 <= t.deadline.0) & (t.deadline.0 <= t.period.0)
 }
 
 fn same_name(a: Name, b: Name) -> bool
-    ensures { result ≡ sameBytes a.bytes b.bytes }
+    ensures { result ≡ same_bytes a.bytes b.bytes }
 {
     let x = a.bytes;
     let y = b.bytes;
@@ -113,7 +113,7 @@ fn is_known(count: usize, names: [Name; 32], name: Name) -> bool
 
 // The first refusal of a task line below `count` others, of which `names` has the names, and below no access line.
 pub fn task_fault(count: usize, names: [Name; 32], said: TaskLine) -> Finding
-    ensures { result ≡ taskFault false count (take count names) said }
+    ensures { result ≡ task_fault false count (take count names) said }
 {
     let task = said.task;
     let name = task.name;
@@ -147,7 +147,7 @@ pub fn task_fault(count: usize, names: [Name; 32], said: TaskLine) -> Finding
 // The position of the first of `count` tasks whose B is above 0; `count` where there is none.
 pub fn first_blocked(count: usize, tasks: [Task; 32]) -> usize
     requires { count ≤ 32 }
-    ensures { result ≡ firstBlocked (take count tasks) }
+    ensures { result ≡ first_blocked (take count tasks) }
 {
     let mut i = 0;
     while i < count {
@@ -163,7 +163,7 @@ pub fn first_blocked(count: usize, tasks: [Task; 32]) -> usize
 // The refusal at the end of a table with accesses: a task that has a B all the same.
 pub fn blocked_fault(accesses: usize, count: usize, tasks: [Task; 32]) -> Finding
     requires { count ≤ 32 }
-    ensures { result ≡ blockedFault accesses (take count tasks) }
+    ensures { result ≡ blocked_fault accesses (take count tasks) }
 {
     if (0 < accesses) & (first_blocked(count, tasks) < count) {
         return Finding::Fault(17);

@@ -1,7 +1,7 @@
 // What a field says: the numbers and names of specs/Fields.antt.
 ghost use Rattle.std.specs.Prelude.{◌≡◌, ◌≤◌, length};
-ghost use Rattle.fields.specs.Bytes.{everyByte, isDigit, isNameByte, sameBytes};
-ghost use Rattle.fields.specs.Fields.{readDigits, readNumber, isName, is_value, value_of, isLetter};
+ghost use Rattle.fields.specs.Bytes.{every_byte, is_digit, is_name_byte, same_bytes};
+ghost use Rattle.fields.specs.Fields.{read_digits, read_number, is_name, is_value, value_of, is_letter};
 
 // What a field says that is to be a number.
 #[derive(Drop)]
@@ -11,7 +11,7 @@ pub enum NumberField {
 }
 
 fn is_digit(b: u8) -> bool
-    ensures { result ≡ isDigit b }
+    ensures { result ≡ is_digit b }
 {
     (b'0' <= b) & (b <= b'9')
 }
@@ -25,7 +25,7 @@ fn wide(x: u8) -> u64
 // The number that up to nine digits say.
 fn read_digits(f: &[u8]) -> NumberField
     requires { length f.now ≤ 9 }
-    ensures { result ≡ readDigits 0 f.now }
+    ensures { result ≡ read_digits 0 f.now }
 {
     let mut v: u64 = 0;
     let mut i = 0;
@@ -42,7 +42,7 @@ fn read_digits(f: &[u8]) -> NumberField
 
 // Up to nine digits with no leading zero; only `0` itself starts with one.
 pub fn read_number(f: &[u8]) -> NumberField
-    ensures { result ≡ readNumber f.now }
+    ensures { result ≡ read_number f.now }
 {
     let n = f.len();
     if n < 1 {
@@ -59,13 +59,13 @@ pub fn read_number(f: &[u8]) -> NumberField
 }
 
 fn is_name_byte(b: u8) -> bool
-    ensures { result ≡ isNameByte b }
+    ensures { result ≡ is_name_byte b }
 {
     (b'a' <= b) & (b <= b'z') | is_digit(b) | (b == b'-')
 }
 
 fn all_name_bytes(f: &[u8]) -> bool
-    ensures { result ≡ everyByte isNameByte f.now }
+    ensures { result ≡ every_byte is_name_byte f.now }
 {
     let mut i = 0;
     while i < f.len() {
@@ -79,7 +79,7 @@ fn all_name_bytes(f: &[u8]) -> bool
 
 // Whether a field is a name: up to twelve bytes, at least one, each a small letter, a digit or a dash.
 pub fn is_name(f: &[u8]) -> bool
-    ensures { result ≡ isName f.now }
+    ensures { result ≡ is_name f.now }
 {
     (1 <= f.len()) & (f.len() <= 12) & all_name_bytes(f)
 }
@@ -105,13 +105,13 @@ pub fn value_of(n: NumberField) -> u64
 
 // Whether the field is the one byte b.
 pub fn is_letter(f: &[u8], b: u8) -> bool
-    ensures { result ≡ isLetter b f.now }
+    ensures { result ≡ is_letter b f.now }
 {
     if f.len() == 1 { f[0] == b } else { false }
 }
 
 pub fn same_bytes(a: &[u8], b: &[u8]) -> bool
-    ensures { result ≡ sameBytes a.now b.now }
+    ensures { result ≡ same_bytes a.now b.now }
 {
     if a.len() != b.len() {
         return false;

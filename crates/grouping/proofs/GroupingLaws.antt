@@ -7,14 +7,14 @@ use mathlib.Core.List.{List}
 use borrow.Author.Count.{below_more}
 use lib.ListN.{get_or, length, set, length-set}
 use lib.Seq.{get_or-set_same, get_or-set_other}
-use Rattle.demand.specs.Terms.{periodIn}
+use Rattle.demand.specs.Terms.{period_in}
 use Rattle.grouping.specs.Grouping.{ShortTaken, Chosen}
 
 pub taken_none : {rs cs : List ℕ} → length cs ≡ 32 → ShortTaken rs 0 cs
 taken_none e = record { long = e; short = λ j l. absurd (omega arith) }
 
 -- a class that is set, of a term that is short where it is taken
-pub taken-set : {rs cs : List ℕ} {n : ℕ} (m i v : ℕ) → i < 32 → (v < 9 → periodIn rs i ≤ 16384)
+pub taken-set : {rs cs : List ℕ} {n : ℕ} (m i v : ℕ) → i < 32 → (v < 9 → period_in rs i ≤ 16384)
     → ((j : ℕ) → j < m → (j ≡ i → ⊥) → j < n) → ShortTaken rs n cs → ShortTaken rs m (set cs i v)
 taken-set {rs} {cs} m i v h p q t = record {
   long = simp length-set t.long;

@@ -1,7 +1,7 @@
 // How rounds are chosen: stretches of time after which the releases of some terms come again as they were, and which terms are put into which of them. Nothing
 // rests on the choice, so nothing more is said of it than its ranges: any other one would do, and give the same answers.
 ghost use Rattle.std.specs.Prelude.{◌≡◌, ℕ, ◌≤◌, ◌<◌, get_or, length};
-ghost use Rattle.demand.specs.Terms.{periodIn, Handed};
+ghost use Rattle.demand.specs.Terms.{period_in, Handed};
 ghost use Rattle.grouping.specs.Grouping.{ShortTaken, Chosen};
 
 // The ticks of the longest round.
@@ -126,7 +126,7 @@ fn grown(releases: &[u64], weights: &[u64], n: usize, classes: &[usize; 32], per
 
 // Puts the terms into a round whose periods divide it, and which are in none yet.
 fn join(releases: &[u64], n: usize, ticks: u64, round: usize, classes: &mut [usize; 32])
-    requires { (n ≤ 32) × (n ≤ length releases.now) × ((j : ℕ) → j < n → 1 ≤ periodIn releases.now j) × ShortTaken releases.now n classes.old }
+    requires { (n ≤ 32) × (n ≤ length releases.now) × ((j : ℕ) → j < n → 1 ≤ period_in releases.now j) × ShortTaken releases.now n classes.old }
     ensures { ShortTaken releases.now n classes.new }
 {
     for i in 0..n {

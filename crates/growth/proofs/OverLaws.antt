@@ -9,65 +9,65 @@ use lib.ListN.{length, get_or, take, length-append}
 use lib.Seq.{take-suc}
 use Rattle.demand.specs.declared.Response.{Response}
 use Rattle.demand.specs.declared.Response.TheVariants.{Within, Unschedulable}
-use Rattle.demand.specs.Demand.{termOf}
-use Rattle.demand.specs.Terms.{periodIn, jitterIn}
-use Rattle.demand.specs.Least.{leastOf, sooner, later, latestOf}
+use Rattle.demand.specs.Demand.{term_of}
+use Rattle.demand.specs.Terms.{period_in, jitter_in}
+use Rattle.demand.specs.Least.{least_of, sooner, later, latest_of}
 use Rattle.demand.proofs.DemandLaws.{demand-same}
 use Rattle.demand.proofs.LaterLaws.{latest-next}
 use Rattle.accesses.specs.declared.Access.{Access}
-use Rattle.accesses.specs.Accesses.{mayBlock, blocking, or_else, emptyAccess}
+use Rattle.accesses.specs.Accesses.{may_block, blocking, or_else, empty_access}
 use Rattle.accesses.proofs.BlockingLaws.{blocking-snoc, or_some}
-use Rattle.board.specs.Board.{workOn, limitOn, brtOn}
-use Rattle.costs.specs.Costs.{reloadsWith}
+use Rattle.board.specs.Board.{work_on, limit_on, brt_on}
+use Rattle.costs.specs.Costs.{reloads_with}
 use Rattle.blocked_row.specs.BlockedRow.{ChargedUnder}
 use Rattle.blocked_row.proofs.JoinLaws.{count-is}
-use Rattle.verdicts.specs.Verdicts.{hasResponse}
+use Rattle.verdicts.specs.Verdicts.{has_response}
 use Rattle.analysis.proofs.AnswerLaws.{combined-at, combined-below}
-use Rattle.scaling.specs.Scaling.{scaledWork}
+use Rattle.scaling.specs.Scaling.{scaled_work}
 use Rattle.growth.specs.Growth.{Bounds}
-use Rattle.growth.specs.Tried.{scaledLeast, answersBy, reloadsOn, answersUnder, scaledLatest, answersOn}
+use Rattle.growth.specs.Tried.{scaled_least, answers_by, reloads_on, answers_under, scaled_latest, answers_on}
 use Rattle.growth.proofs.BoundLaws.{bounds-whole, bounds-same, bounds-both, bounds-either, bounds-second}
 
 -- there is a later answer where there are both, and a sooner one where there is either
-later-some : (a b : Response) → hasResponse (later a b) ≡ (hasResponse a && hasResponse b)
+later-some : (a b : Response) → has_response (later a b) ≡ (has_response a && has_response b)
 later-some (Within a) (Within b) = refl
 later-some (Within a) Unschedulable = refl
 later-some Unschedulable b = refl
 
-sooner-some : (a b : Response) → hasResponse (sooner a b) ≡ (hasResponse a || hasResponse b)
+sooner-some : (a b : Response) → has_response (sooner a b) ≡ (has_response a || has_response b)
 sooner-some (Within a) (Within b) = refl
 sooner-some (Within a) Unschedulable = refl
 sooner-some Unschedulable b = refl
 
 -- the counts of a row are those of its method
-pub row-answers : (board row : List ℕ) (a : Access) (m i k : ℕ) → ChargedUnder board a m i 0 row → answersBy board row a i k ≡ answersUnder board a m i k
-unfolding scaledLeast reloadsWith
+pub row-answers : (board row : List ℕ) (a : Access) (m i k : ℕ) → ChargedUnder board a m i 0 row → answers_by board row a i k ≡ answers_under board a m i k
+unfolding scaled_least reloads_with
 row-answers board row a m i k p =
-    ap (λ (f : ℕ → ℕ). hasResponse (leastOf f (limitOn board i)))
-    (demand-same (scaledWork k (workOn board i) + a.lasts.0) _ _ i
-    (λ j l. ap (λ (n : ℕ). termOf (periodIn board j) (jitterIn board j) (scaledWork k (workOn board j) + brtOn board * n)) (count-is board a m i p j l)))
+    ap (λ (f : ℕ → ℕ). has_response (least_of f (limit_on board i)))
+    (demand-same (scaled_work k (work_on board i) + a.lasts.0) _ _ i
+    (λ j l. ap (λ (n : ℕ). term_of (period_in board j) (jitter_in board j) (scaled_work k (work_on board j) + brt_on board * n)) (count-is board a m i p j l)))
 
 module _ (board : List ℕ) (m i : ℕ) where
   abbrev over : List Access → ℕ → Bool
-  over l k = hasResponse (scaledLatest board l m i k)
+  over l k = has_response (scaled_latest board l m i k)
 
   abbrev A : ℕ → Access → Response
-  A k a = scaledLeast board (reloadsOn board a m i) a i k
+  A k a = scaled_least board (reloads_on board a m i) a i k
 
   -- nothing blocks
   over_none : (most : ℕ) → Bounds (over []) most most
-  unfolding scaledLatest
+  unfolding scaled_latest
   over_none most = bounds-whole _ most (λ k l h. refl)
 
   -- one more that may
-  over-more : (l : List Access) (a : Access) (most r s : ℕ) → Bounds (over l) most r → Bounds (answersUnder board a m i) r s → Bounds (over (l ++ (a ∷ []))) most s
-  unfolding scaledLatest
+  over-more : (l : List Access) (a : Access) (most r s : ℕ) → Bounds (over l) most r → Bounds (answers_under board a m i) r s → Bounds (over (l ++ (a ∷ []))) most s
+  unfolding scaled_latest
   over-more l a most r s b q = bounds-same _ _ most s (λ k h d. step k) (bounds-both _ _ most r s b q)
     where
-      step : (k : ℕ) → (over l k && answersUnder board a m i k) ≡ over (l ++ (a ∷ [])) k
+      step : (k : ℕ) → (over l k && answers_under board a m i k) ≡ over (l ++ (a ∷ [])) k
       step k =
-          sym (later-some (latestOf (map (A k) l)) (A k a))
-          ∙ ap hasResponse (sym (latest-next (map (A k) l) (A k a)) ∙ ap latestOf (sym (map-append (A k) l (a ∷ []))))
+          sym (later-some (latest_of (map (A k) l)) (A k a))
+          ∙ ap has_response (sym (latest-next (map (A k) l) (A k a)) ∙ ap latest_of (sym (map-append (A k) l (a ∷ []))))
 
   pub over-start : (accesses : List Access) (most : ℕ) → Bounds (over (blocking i (take 0 accesses))) most most × (0 ≡ length (blocking i (take 0 accesses)))
   unfolding blocking
@@ -76,19 +76,19 @@ module _ (board : List ℕ) (m i : ℕ) where
   -- the accesses of a list, one after the other: those that may block the task count
   module _ (accesses : List Access) (n : ℕ) (here : n < length accesses) (most : ℕ) where
     abbrev a : Access
-    a = get_or accesses n emptyAccess
+    a = get_or accesses n empty_access
 
     abbrev before : List Access
     before = blocking i (take n accesses)
 
-    next-blocking : blocking i (take (n + 1) accesses) ≡ before ++ cond (mayBlock i a) (a ∷ []) []
-    next-blocking = rw (add-one, take-suc accesses n emptyAccess here) (blocking-snoc i (take n accesses) a)
+    next-blocking : blocking i (take (n + 1) accesses) ≡ before ++ cond (may_block i a) (a ∷ []) []
+    next-blocking = rw (add-one, take-suc accesses n empty_access here) (blocking-snoc i (take n accesses) a)
 
-    pub over-one : (r s blocked : ℕ) → mayBlock i a ≡ true → Bounds (over before) most r × (blocked ≡ length before) → Bounds (answersUnder board a m i) r s
+    pub over-one : (r s blocked : ℕ) → may_block i a ≡ true → Bounds (over before) most r × (blocked ≡ length before) → Bounds (answers_under board a m i) r s
         → Bounds (over (blocking i (take (n + 1) accesses))) most s × (blocked + 1 ≡ length (blocking i (take (n + 1) accesses)))
     over-one r s blocked e (b, h) q = rw (next-blocking, e) (over-more before a most r s b q, rw (length-append) (omega (arith, h)))
 
-    pub over-other : (r blocked : ℕ) → mayBlock i a ≡ false → Bounds (over before) most r × (blocked ≡ length before)
+    pub over-other : (r blocked : ℕ) → may_block i a ≡ false → Bounds (over before) most r × (blocked ≡ length before)
         → Bounds (over (blocking i (take (n + 1) accesses))) most r × (blocked ≡ length (blocking i (take (n + 1) accesses)))
     over-other r blocked e p = rw (next-blocking, e, append-nil) p
 
@@ -96,7 +96,7 @@ module _ (board : List ℕ) (m i : ℕ) where
   pub over-some : (l : List Access) (plain : Access) (most r blocked : ℕ) → blocked ≡ length l → 1 ≤ blocked → Bounds (over l) most r → Bounds (over (or_else plain l)) most r
   over-some l plain most r blocked h some b = rw (← or_some plain l (omega arith)) b
 
-  pub over_plain : (l : List Access) (plain : Access) (most r s blocked : ℕ) → blocked ≡ length l → blocked ≡ 0 → Bounds (over l) most r → Bounds (answersUnder board plain m i) r s
+  pub over_plain : (l : List Access) (plain : Access) (most r s blocked : ℕ) → blocked ≡ length l → blocked ≡ 0 → Bounds (over l) most r → Bounds (answers_under board plain m i) r s
       → Bounds (over (or_else plain l)) most s
   over_plain [] plain most r s blocked h none b q = over-more [] plain most r s b q
   over_plain (x ∷ l) plain most r s blocked h none b q = absurd (omega arith)
@@ -105,16 +105,16 @@ module _ (board : List ℕ) (m i : ℕ) where
 
 module _ (board : List ℕ) (blockers : List Access) (m i most : ℕ) where
   abbrev by : ℕ → ℕ → Bool
-  by m k = hasResponse (scaledLatest board blockers m i k)
+  by m k = has_response (scaled_latest board blockers m i k)
 
-  pub bounds-single : (r : ℕ) → m < 5 → Bounds (by m) most r → Bounds (answersOn board blockers m i) most r
-  bounds-single r h = bounds-same _ _ most r (λ k l d. ap hasResponse (combined-below (λ m. scaledLatest board blockers m i k) m h))
+  pub bounds-single : (r : ℕ) → m < 5 → Bounds (by m) most r → Bounds (answers_on board blockers m i) most r
+  bounds-single r h = bounds-same _ _ most r (λ k l d. ap has_response (combined-below (λ m. scaled_latest board blockers m i k) m h))
 
-  either : (m ≡ 5) → (k : ℕ) → (by 3 k || by 4 k) ≡ answersOn board blockers m i k
-  either e k = sym (sooner-some (scaledLatest board blockers 3 i k) (scaledLatest board blockers 4 i k)) ∙ ap hasResponse (combined-at (λ m. scaledLatest board blockers m i k) m e)
+  either : (m ≡ 5) → (k : ℕ) → (by 3 k || by 4 k) ≡ answers_on board blockers m i k
+  either e k = sym (sooner-some (scaled_latest board blockers 3 i k) (scaled_latest board blockers 4 i k)) ∙ ap has_response (combined-at (λ m. scaled_latest board blockers m i k) m e)
 
-  pub bounds-combined : (r s : ℕ) → m ≡ 5 → Bounds (by 3) most r → Bounds (by 4) most s → Bounds (answersOn board blockers m i) most (max r s)
+  pub bounds-combined : (r s : ℕ) → m ≡ 5 → Bounds (by 3) most r → Bounds (by 4) most s → Bounds (answers_on board blockers m i) most (max r s)
   bounds-combined r s e b c = bounds-same _ _ most (max r s) (λ k l d. either e k) (bounds-either _ _ most r s b c)
 
-  pub bounds-fourth : (r : ℕ) → m ≡ 5 → r ≡ most → Bounds (by 4) most r → Bounds (answersOn board blockers m i) most most
+  pub bounds-fourth : (r : ℕ) → m ≡ 5 → r ≡ most → Bounds (by 4) most r → Bounds (answers_on board blockers m i) most most
   bounds-fourth r e all b = bounds-same _ _ most most (λ k l d. either e k) (bounds-second (by 3) (by 4) most (rw all at b))

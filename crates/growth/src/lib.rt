@@ -3,16 +3,16 @@
 // is left, no other task is looked at.
 ghost use Rattle.std.specs.Prelude.{◌≡◌, min, ◌+◌, ◌≤◌, get_or};
 ghost use Rattle.demand.specs.Positions.{front};
-ghost use Rattle.demand.specs.Demand.{demandOf};
-ghost use Rattle.demand.specs.Terms.{termIn, Handed};
+ghost use Rattle.demand.specs.Demand.{demand_of};
+ghost use Rattle.demand.specs.Terms.{term_in, Handed};
 ghost use Rattle.readable.specs.Readable.{Readable};
-ghost use Rattle.board.specs.Board.{limitOn, Lent};
+ghost use Rattle.board.specs.Board.{limit_on, Lent};
 ghost use Rattle.one_row.specs.Row.{Charged};
 ghost use Rattle.blocked_row.specs.BlockedRow.{FewReloads};
 ghost use Rattle.analysis.specs.Analysis.{Blocks};
-ghost use Rattle.verdicts.specs.Verdicts.{hasResponse};
-ghost use Rattle.growth.specs.Growth.{growthOf, Bounds};
-ghost use Rattle.growth.specs.Tried.{scaledWeight, answersBy, StartedAt, answersUnder, scaledLatest, answersOn, Accessed, blockersIn, Stretches, FitsUpTo};
+ghost use Rattle.verdicts.specs.Verdicts.{has_response};
+ghost use Rattle.growth.specs.Growth.{growth_of, Bounds};
+ghost use Rattle.growth.specs.Tried.{scaled_weight, answers_by, StartedAt, answers_under, scaled_latest, answers_on, Accessed, blockers_in, Stretches, FitsUpTo};
 
 use accesses::Access;
 use board::{BRT, LIMITS, WORKS};
@@ -31,7 +31,7 @@ const LONGEST: u64 = 250000000000;
 // What each task above i asks for at an activation, with C scaled by k, by the charges in a row.
 fn scaled_weights(board: &[u64], i: usize, row: &[u64], k: u64) -> [u64; 32]
     requires { Stretches board.now (i + 1) k × FewReloads i row.now }
-    ensures { result ≡ front 0 (scaledWeight board.now (λ j. get_or row.now j 0) k) i }
+    ensures { result ≡ front 0 (scaled_weight board.now (λ j. get_or row.now j 0) k) i }
 {
     let brt = Ticks(board[BRT]);
     let mut all = [0u64; 32];
@@ -45,8 +45,8 @@ fn scaled_weights(board: &[u64], i: usize, row: &[u64], k: u64) -> [u64; 32]
 
 // The demand of the task at i at its limit.
 fn demand_at_limit(board: &[u64], own: u64, weights: &[u64], i: usize) -> u64
-    requires { Lent board.now (i + 1) × Handed own board.now weights.now i (limitOn board.now i) }
-    ensures { result ≡ demandOf own (termIn board.now weights.now) i (limitOn board.now i) }
+    requires { Lent board.now (i + 1) × Handed own board.now weights.now i (limit_on board.now i) }
+    ensures { result ≡ demand_of own (term_in board.now weights.now) i (limit_on board.now i) }
 {
     let limit = board[LIMITS + i];
     let mut demand = own;
@@ -70,7 +70,7 @@ fn answers(
     ends: &mut [u64; 32],
 ) -> bool
     requires { (1 ≤ k) × Stretches board.now (i + 1) k × FewReloads i row.now × Blocks i access × StartedAt board.now row.now access i k counts.old ends.old }
-    ensures value { result ≡ answersBy board.now row.now access i k }
+    ensures value { result ≡ answers_by board.now row.now access i k }
     ensures started_at { StartedAt board.now row.now access i k counts.new ends.new }
 {
     let weights = scaled_weights(board, i, row, k);
@@ -87,7 +87,7 @@ fn answers(
 // k is searched from.
 fn bisected(board: &[u64], i: usize, row: &[u64], access: Access, most: u64) -> u64
     requires { Stretches board.now (i + 1) most × FewReloads i row.now × Blocks i access }
-    ensures { Bounds (answersBy board.now row.now access i) most result }
+    ensures { Bounds (answers_by board.now row.now access i) most result }
 {
     if most == 0 {
         return 0;
@@ -119,7 +119,7 @@ fn bisected(board: &[u64], i: usize, row: &[u64], access: Access, most: u64) -> 
 // The greatest such k under one of the methods 0 to 4, of which `row` has the charges without the access.
 fn under(board: &[u64], method: u64, i: usize, row: &[u64; ROW], access: Access, most: u64) -> u64
     requires { (method ≤ 4) × Stretches board.now (i + 1) most × Charged board.now method i 0 row.now × Blocks i access }
-    ensures { Bounds (answersUnder board.now access method i) most result }
+    ensures { Bounds (answers_under board.now access method i) most result }
 {
     let mut joined = *row;
     blocked_row::join(board, method, i, access, &mut joined);
@@ -138,7 +138,7 @@ fn over_blockers(
     most: u64,
 ) -> u64
     requires { (method ≤ 4) × Stretches board.now (i + 1) most × Accessed i listed accesses plain }
-    ensures { Bounds (λ k. hasResponse (scaledLatest board.now (blockersIn i listed accesses plain) method i k)) most result }
+    ensures { Bounds (λ k. has_response (scaled_latest board.now (blockers_in i listed accesses plain) method i k)) most result }
 {
     let row = one_row::charged(board, method, i);
     let mut left = most;
@@ -167,7 +167,7 @@ fn by_method(
     most: u64,
 ) -> u64
     requires { (method ≤ 5) × Stretches board.now (i + 1) most × Accessed i listed accesses plain }
-    ensures { Bounds (answersOn board.now (blockersIn i listed accesses plain) method i) most result }
+    ensures { Bounds (answers_on board.now (blockers_in i listed accesses plain) method i) most result }
 {
     if method < 5 {
         return over_blockers(board, method, i, accesses, listed, plain, most);
@@ -201,7 +201,7 @@ fn fits_up_to(board: &[u64], count: usize) -> u64
 // The growth that is left of a table under one of the methods 0 to 5.
 pub fn growth(table: Table, method: u64) -> u64
     requires { (method ≤ 5) × Readable table }
-    ensures { result ≡ growthOf method table }
+    ensures { result ≡ growth_of method table }
 {
     let count = table.count;
     let accesses = table.accesses;

@@ -6,9 +6,9 @@ use native.Mathlib.Omega.{arith}
 use mathlib.Core.Path.{◌≡◌, refl, sym, ap}
 use Rattle.demand.specs.declared.Response.TheVariants.{Unschedulable}
 use Rattle.demand.specs.declared.Part.{Part}
-use Rattle.demand.specs.Demand.{Term, ceil, workOf, demandOf}
+use Rattle.demand.specs.Demand.{Term, ceil, work_of, demand_of}
 use Rattle.demand.specs.Terms.{InRange}
-use Rattle.demand.specs.Least.{Reached, leastOf}
+use Rattle.demand.specs.Least.{Reached, least_of}
 use Rattle.demand.specs.Hasten.{share_of, shares_of, PartOf, TurnOf}
 use Rattle.demand.proofs.PositionLaws.{fold-none, fold_next}
 use Rattle.demand.proofs.LeastLaws.{Monotone, no-solution, climb}
@@ -20,7 +20,7 @@ use Rattle.demand.proofs.DemandLaws.{ceil-le, ceil-mul, work-later, jitter-most,
 share-le : (r q c w t : ℕ) → r ≤ c * t → q * t ≤ w * 17179869184 → r * q ≤ 17179869184 * (c * w)
 share-le r q c w t h k = omega (arith, mul-le-mul_right q h, mul-le-mul_left c k)
 
-work-share : (s : ℕ) (t : Term) → InRange t → (s + t.jitter) * share_of t ≤ 17179869184 * workOf s t
+work-share : (s : ℕ) (t : Term) → InRange t → (s + t.jitter) * share_of t ≤ 17179869184 * work_of s t
 work-share s t p =
     share-le (s + t.jitter) (share_of t) (ceil (s + t.jitter) t.period) t.weight t.period (ceil-mul (s + t.jitter) t.period p.period)
     (div-mul-le_self (t.weight * 17179869184) t.period)
@@ -38,7 +38,7 @@ module _ (t : ℕ → Term) where
 
   -- the demand is no less than the task's own work and the shares
   load-demand : (own n r : ℕ) → ((j : ℕ) → j < n → InRange (t j))
-      → own * 17179869184 + r * shares_of t n ≤ 17179869184 * demandOf own t n r
+      → own * 17179869184 + r * shares_of t n ≤ 17179869184 * demand_of own t n r
   load-demand own zero r p = omega (arith, ap (λ (x : ℕ). r * x) shares-none, demand-none own t r)
   load-demand own (suc n) r p =
       omega (
@@ -51,7 +51,7 @@ module _ (t : ℕ → Term) where
 
   -- no time equals its demand where the terms take the whole processor
   pub full : (own n limit : ℕ) → ((j : ℕ) → j < n → InRange (t j)) → 1 ≤ own → 17179869184 ≤ shares_of t n
-      → Unschedulable ≡ leastOf (demandOf own t n) limit
+      → Unschedulable ≡ least_of (demand_of own t n) limit
   full own n limit p h k = no-solution _ limit (λ s e. omega (arith, load-demand own n s p, mul-le-mul_left s k))
 
 -- ---- the bound: what is left of the processor has to do the work that is counted
@@ -69,7 +69,7 @@ shared-sound : (s J q rest left w : ℕ) → left ≡ rest + q → (s + J) * q �
     → 0 * 17179869184 + J * q + s * left ≤ 17179869184 * w + s * rest
 shared-sound s J q rest left w e h = omega (arith, ap (λ (x : ℕ). s * x) e)
 
-module _ (t : Term) (r left w : ℕ) (p : InRange t) (is : w ≡ workOf r t) (most : w ≤ 250000000000000000) where
+module _ (t : Term) (r left w : ℕ) (p : InRange t) (is : w ≡ work_of r t) (most : w ≤ 250000000000000000) where
   pub part-counted : 1 ≤ left → PartOf t r left (record { work = w; counted = w; extra = 0; left = left })
   part-counted h = record {
     work-is = is;
@@ -89,20 +89,20 @@ module _ (t : Term) (r left w : ℕ) (p : InRange t) (is : w ≡ workOf r t) (mo
     left-least = omega arith;
     left-most = omega arith;
     extra-most = omega (arith, mul-le-mul_right q (jitter-most t p));
-    sound = λ s l. shared-sound s t.jitter q (left - q) left (workOf s t) (omega arith) (rw e (work-share s t p));
+    sound = λ s l. shared-sound s t.jitter q (left - q) left (work_of s t) (omega arith) (rw e (work-share s t p));
   }
 
 -- ---- a turn
 
 -- after the first i terms: their demand, what of it is counted, the shares' jitters, and what the shares leave of the processor
 pub record Turning (own : ℕ) (t : ℕ → Term) (r i demand counted extra left : ℕ) : Type 0 where
-  pub demand-is : demand ≡ demandOf own t i r
+  pub demand-is : demand ≡ demand_of own t i r
   pub demand-most : demand ≤ own + i * 250000000000000000
   pub counted-most : counted ≤ demand
   pub left-least : 1 ≤ left
   pub left-most : left ≤ 17179869184
   pub extra-most : extra + 250000000 * left ≤ 4294967296000000000
-  pub sound : (s : ℕ) → r ≤ s → counted * 17179869184 + extra + s * 17179869184 ≤ 17179869184 * demandOf own t i s + s * left
+  pub sound : (s : ℕ) → r ≤ s → counted * 17179869184 + extra + s * 17179869184 ≤ 17179869184 * demand_of own t i s + s * left
 
 module _ (own : ℕ) (t : ℕ → Term) (r : ℕ) where
   pub turning-none : Turning own t r 0 own own 0 17179869184
@@ -129,7 +129,7 @@ module _ (own : ℕ) (t : ℕ → Term) (r : ℕ) where
   }
 
   module _ (n demand counted extra left : ℕ) (a : Turning own t r n demand counted extra left) (few : n ≤ 32) (own-most : own ≤ 500000000) where
-    pub turned_plain : Monotone (demandOf own t n) → TurnOf (demandOf own t n) r (record { demand = demand; next = demand })
+    pub turned_plain : Monotone (demand_of own t n) → TurnOf (demand_of own t n) r (record { demand = demand; next = demand })
     turned_plain mono = record {
       demand-is = a.demand-is;
       later = omega arith;
@@ -138,11 +138,11 @@ module _ (own : ℕ) (t : ℕ → Term) (r : ℕ) where
     }
 
     pub turned-later : counted ≤ 250000000 → demand < ceil (counted * 17179869184 + extra) left
-        → TurnOf (demandOf own t n) r (record { demand = demand; next = ceil (counted * 17179869184 + extra) left })
+        → TurnOf (demand_of own t n) r (record { demand = demand; next = ceil (counted * 17179869184 + extra) left })
     turned-later h l = record {
       demand-is = a.demand-is;
       later = omega arith;
       most = omega (arith, a.extra-most, a.left-most, div-le_self (counted * 17179869184 + extra + (left - 1)) left);
-      reached = λ at. reached-by (demandOf own t n) r left (counted * 17179869184 + extra) a.left-least a.left-most a.sound at
+      reached = λ at. reached-by (demand_of own t n) r left (counted * 17179869184 + extra) a.left-least a.left-most a.sound at
           (omega (arith, at.rises, a.demand-is));
     }

@@ -5,7 +5,7 @@ use mathlib.Core.Path.{◌≡◌}
 use Rattle.demand.specs.declared.Part.{Part}
 use Rattle.demand.specs.declared.Turn.{Turn}
 use Rattle.demand.specs.Positions.{hp, fold}
-use Rattle.demand.specs.Demand.{Term, workOf}
+use Rattle.demand.specs.Demand.{Term, work_of}
 use Rattle.demand.specs.Least.{Reached}
 
 -- the share of the processor that a term takes, rounded down, and those of the first n together
@@ -17,13 +17,13 @@ shares_of terms n = fold ◌+◌ 0 (λ j. share_of (terms j)) (hp n)
 
 -- what a term adds to a bound from below, of `left` parts of the processor: its share of them, or what it asks for at r
 pub record PartOf (t : Term) (r left : ℕ) (p : Part) : Type 0 where
-  pub work-is : p.work ≡ workOf r t
+  pub work-is : p.work ≡ work_of r t
   pub work-most : p.work ≤ 250000000000000000
   pub counted-most : p.counted ≤ p.work
   pub left-least : 1 ≤ p.left
   pub left-most : p.left ≤ left
   pub extra-most : p.extra + 250000000 * p.left ≤ 250000000 * left
-  pub sound : (s : ℕ) → r ≤ s → p.counted * 17179869184 + p.extra + s * left ≤ 17179869184 * workOf s t + s * p.left
+  pub sound : (s : ℕ) → r ≤ s → p.counted * 17179869184 + p.extra + s * left ≤ 17179869184 * work_of s t + s * p.left
 
 -- a turn: the demand, and the next time to try
 pub record TurnOf (f : ℕ → ℕ) (r : ℕ) (t : Turn) : Type 0 where

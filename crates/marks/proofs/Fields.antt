@@ -12,21 +12,21 @@ use lib.Dec.{leb, ltb, lit<}
 use lib.ListN.{length}
 use lib.Pow.{pow-add, pow_mono, pow_pos, shr_lt}
 use borrow.Author.Tests.{ltb-true, ltb-false, lt-ltb, le-leb, lt-leb}
-use Rattle.hex.specs.Hex.{hexDigit, readHex}
-use Rattle.hex.proofs.HexLaws.{read-lt, read-cut}
+use Rattle.hex_digits.specs.Hex.{hex_digit, read_hex}
+use Rattle.hex_digits.proofs.HexLaws.{read-lt, read-cut}
 use Rattle.sets.specs.declared.CacheSet.{CacheSet}
 use Rattle.sets.specs.declared.SetField.TheVariants.{Marks}
-use Rattle.sets.specs.Field.{marksSaid, readSet}
+use Rattle.sets.specs.Field.{marks_said, read_set}
 use Rattle.sets.specs.Words.{number_of, words_of}
 use Rattle.sets.proofs.WordLaws.{WordsInRange, words-number}
 use Rattle.sets.proofs.FieldLaws.{says, right-length, one-spelling}
-use Rattle.marks.specs.Marks.{hexByte, hexDigits, bitsIn, marksText, marksFit}
+use Rattle.marks.specs.Marks.{hex_byte, hex_digits, bits_in, marks_text, marks_fit}
 use Rattle.marks.proofs.Digits.{marks-long}
 
 -- ---- digits that are read
 
-digit-read : (d : ℕ) → d < 16 → hexDigit (hexByte d) ≡ some d
-unfolding hexDigit hexByte
+digit-read : (d : ℕ) → d < 16 → hex_digit (hex_byte d) ≡ some d
+unfolding hex_digit hex_byte
 digit-read d h = go (ltb d 10) refl
   where
     go : (t : Bool) → ltb d 10 ≡ t
@@ -40,17 +40,17 @@ digit-read d h = go (ltb d 10) refl
         let l : 10 ≤ d = ltb-false d 10 e in
         rw (le-leb 48 (87 + d) (omega arith), lt-leb (87 + d) 57 (omega arith), le-leb 97 (87 + d) (omega arith), le-leb (87 + d) 102 (omega arith)) (ap some (omega arith))
 
-read_more : (s : List ℕ) (b d v : ℕ) → hexDigit b ≡ some d → readHex 0 s ≡ some v → readHex 0 (s ++ (b ∷ [])) ≡ some (v * 16 + d)
-unfolding readHex bind
+read_more : (s : List ℕ) (b d v : ℕ) → hex_digit b ≡ some d → read_hex 0 s ≡ some v → read_hex 0 (s ++ (b ∷ [])) ≡ some (v * 16 + d)
+unfolding read_hex bind
 read_more s b d v e h = read-cut s (b ∷ []) 0 0 ∙ rw (h, zero-mul, zero-add, e)
 
-pub digits-read : (k n : ℕ) → n < 2 ^ (4 * k) → readHex 0 (hexDigits k n) ≡ some n
-unfolding hexDigits readHex
+pub digits-read : (k n : ℕ) → n < 2 ^ (4 * k) → read_hex 0 (hex_digits k n) ≡ some n
+unfolding hex_digits read_hex
 digits-read zero n h = ap some (sym (lt-one h))
 digits-read (suc k) n h =
     let fewer : n / 16 < 2 ^ (4 * k) = shr_lt (4 * k) 4 (subst (λ (e : ℕ). n < 2 ^ e) (omega arith) h) in
     let last : n % 16 < 16 = mod-lt n (lit< tt) in
-    read_more (hexDigits k (n / 16)) (hexByte (n % 16)) (n % 16) (n / 16) (digit-read (n % 16) last) (digits-read k (n / 16) fewer) ∙ ap some (omega arith)
+    read_more (hex_digits k (n / 16)) (hex_byte (n % 16)) (n % 16) (n / 16) (digit-read (n % 16) last) (digits-read k (n / 16) fewer) ∙ ap some (omega arith)
 
 -- ---- marks below the number of cache sets, as words and as one number
 
@@ -77,25 +77,25 @@ cut_below q n h = elim (dec_le 64 q) [ yes m ↦ more (omega arith) (omega arith
 
 -- what the test of the words says
 record Fit (sets : ℕ) (c : CacheSet) : Type 0 where
-  in0 : c.w0 < 2 ^ bitsIn sets 0
-  in1 : c.w1 < 2 ^ bitsIn sets 1
-  in2 : c.w2 < 2 ^ bitsIn sets 2
-  in3 : c.w3 < 2 ^ bitsIn sets 3
+  in0 : c.w0 < 2 ^ bits_in sets 0
+  in1 : c.w1 < 2 ^ bits_in sets 1
+  in2 : c.w2 < 2 ^ bits_in sets 2
+  in3 : c.w3 < 2 ^ bits_in sets 3
 
-fit_of : (sets : ℕ) (c : CacheSet) → marksFit sets c ≡ true → Fit sets c
-unfolding marksFit
+fit_of : (sets : ℕ) (c : CacheSet) → marks_fit sets c ≡ true → Fit sets c
+unfolding marks_fit
 fit_of sets c e =
     let p = (and-eq-true_iff _ _).0 e in
     let q = (and-eq-true_iff _ _).0 p.0 in
     let r = (and-eq-true_iff _ _).0 q.0 in
     record { in0 = ltb-true _ _ r.0; in1 = ltb-true _ _ r.1; in2 = ltb-true _ _ q.1; in3 = ltb-true _ _ p.1 }
 
-fit_is : (sets : ℕ) (c : CacheSet) → Fit sets c → marksFit sets c ≡ true
-unfolding marksFit
+fit_is : (sets : ℕ) (c : CacheSet) → Fit sets c → marks_fit sets c ≡ true
+unfolding marks_fit
 fit_is sets c f = rw (lt-ltb _ _ f.in0, lt-ltb _ _ f.in1, lt-ltb _ _ f.in2, lt-ltb _ _ f.in3)
 
-few_bits : (sets k : ℕ) → bitsIn sets k ≤ 64
-unfolding bitsIn
+few_bits : (sets k : ℕ) → bits_in sets k ≤ 64
+unfolding bits_in
 few_bits sets k = omega arith
 
 fit-range : (sets : ℕ) (c : CacheSet) → Fit sets c → WordsInRange c
@@ -108,20 +108,20 @@ fit-range sets c f = record {
 
 -- the bits of each word, as those that are left above the words below it
 module _ (sets : ℕ) where
-  bits-w0 : bitsIn sets 0 ≡ sets - (sets - 64)
-  unfolding bitsIn
+  bits-w0 : bits_in sets 0 ≡ sets - (sets - 64)
+  unfolding bits_in
   bits-w0 = omega arith
 
-  bits-w1 : bitsIn sets 1 ≡ (sets - 64) - (sets - 64 - 64)
-  unfolding bitsIn
+  bits-w1 : bits_in sets 1 ≡ (sets - 64) - (sets - 64 - 64)
+  unfolding bits_in
   bits-w1 = rw (← sub-add-eq sets 64 64) refl
 
-  bits-w2 : bitsIn sets 2 ≡ (sets - 64 - 64) - (sets - 64 - 64 - 64)
-  unfolding bitsIn
+  bits-w2 : bits_in sets 2 ≡ (sets - 64 - 64) - (sets - 64 - 64 - 64)
+  unfolding bits_in
   bits-w2 = rw (← sub-add-eq sets 64 64, ← sub-add-eq sets 128 64) refl
 
-  bits-w3 : sets ≤ 256 → bitsIn sets 3 ≡ sets - 64 - 64 - 64
-  unfolding bitsIn
+  bits-w3 : sets ≤ 256 → bits_in sets 3 ≡ sets - 64 - 64 - 64
+  unfolding bits_in
   bits-w3 few = rw (← sub-add-eq sets 64 64, ← sub-add-eq sets 128 64) (omega arith)
 
 fit-below : (sets : ℕ) (c : CacheSet) → sets ≤ 256 → Fit sets c → number_of c < 2 ^ sets
@@ -149,29 +149,29 @@ module _ (sets : ℕ) (few : sets ≤ 256) (by-four : sets % 4 ≡ 0) where
   whole = omega arith
 
   -- what is written of a set that fits is read as the set
-  pub marks-read : (c : CacheSet) → marksFit sets c ≡ true → readSet sets (marksText sets c) ≡ Marks c
-  unfolding marksText
+  pub marks-read : (c : CacheSet) → marks_fit sets c ≡ true → read_set sets (marks_text sets c) ≡ Marks c
+  unfolding marks_text
   marks-read c e =
       let f = fit_of sets c e in
-      right-length (marksText sets c) sets few (marks-long sets c)
-      ∙ ap marksSaid (digits-read (sets / 4) (number_of c) (rw whole at (fit-below sets c few f)))
+      right-length (marks_text sets c) sets few (marks-long sets c)
+      ∙ ap marks_said (digits-read (sets / 4) (number_of c) (rw whole at (fit-below sets c few f)))
       ∙ ap Marks (words-number c (fit-range sets c f))
 
-  module _ (f : List ℕ) (c : CacheSet) (e : readSet sets f ≡ Marks c) where
+  module _ (f : List ℕ) (c : CacheSet) (e : read_set sets f ≡ Marks c) where
     -- a set that is read fits
-    pub read_fits : marksFit sets c ≡ true
+    pub read_fits : marks_fit sets c ≡ true
     read_fits =
         let s = says sets f c e in
         let all : 4 * (0 + length f) ≡ sets = omega (arith, s.long) in
         rw (← s.is) (fit_is sets (words_of s.value) (below-fit sets s.value few (rw all at (read-lt f 0 s.value 0 (lit< tt) s.read))))
 
     -- and its field is what is written of it
-    pub read-text : f ≡ marksText sets c
-    read-text = one-spelling sets f (marksText sets c) c e (marks-read c read_fits)
+    pub read-text : f ≡ marks_text sets c
+    read-text = one-spelling sets f (marks_text sets c) c e (marks-read c read_fits)
 
 -- a set that has no cache set to mark is empty
-pub none-fit : (c : CacheSet) → marksFit 0 c ≡ true → c ≡ record { w0 = 0; w1 = 0; w2 = 0; w3 = 0 }
-unfolding bitsIn
+pub none-fit : (c : CacheSet) → marks_fit 0 c ≡ true → c ≡ record { w0 = 0; w1 = 0; w2 = 0; w3 = 0 }
+unfolding bits_in
 none-fit c e =
     let f = fit_of 0 c e in
     λ i. record { w0 = lt-one f.in0 i; w1 = lt-one f.in1 i; w2 = lt-one f.in2 i; w3 = lt-one f.in3 i }

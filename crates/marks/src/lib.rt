@@ -1,14 +1,14 @@
 // Sets of cache sets as the hex digits of a field. specs/Marks.antt says which digits, and when a field can hold a set.
 ghost use Rattle.std.specs.Prelude.{◌≡◌, ◌+◌, ◌/◌, ◌^◌, ◌≤◌, ◌<◌, ltb, length};
 ghost use Rattle.writer.specs.Wrote.{Wrote};
-ghost use Rattle.marks.specs.Marks.{hexByte, hexDigits, marksText, bitsIn, wordList, marksFit};
+ghost use Rattle.marks.specs.Marks.{hex_byte, hex_digits, marks_text, bits_in, word_list, marks_fit};
 
 use sets::CacheSet;
 use writer::put_byte;
 
 fn hex_byte(digit: u64) -> u8
     requires { digit < 16 }
-    ensures { result ≡ hexByte digit }
+    ensures { result ≡ hex_byte digit }
 {
     if digit < 10 {
         b'0' + digit as u8
@@ -21,7 +21,7 @@ fn hex_byte(digit: u64) -> u8
 fn put_word(out: &mut [u8], at: usize, word: u64, digits: usize) -> usize
     requires digits_in_bounds { at + digits ≤ length out.old }
     requires digits_bound { digits ≤ 16 }
-    ensures { Wrote out.old at (hexDigits digits word) out.new result × (result ≡ at + digits) }
+    ensures { Wrote out.old at (hex_digits digits word) out.new result × (result ≡ at + digits) }
 {
     let mut next = at;
     let mut below = digits;
@@ -35,7 +35,7 @@ fn put_word(out: &mut [u8], at: usize, word: u64, digits: usize) -> usize
 // How many of so many cache sets have their bit in word k.
 fn bits_in(sets: u64, k: u64) -> usize
     requires { k < 4 }
-    ensures { (result ≡ bitsIn sets k) × (result ≤ 64) }
+    ensures { (result ≡ bits_in sets k) × (result ≤ 64) }
 {
     let below = 64 * k;
     if sets <= below {
@@ -47,7 +47,7 @@ fn bits_in(sets: u64, k: u64) -> usize
 
 // The words of a set, the lowest cache sets first.
 fn words_of(marks: CacheSet) -> [u64; 4]
-    ensures { result ≡ wordList marks }
+    ensures { result ≡ word_list marks }
 {
     let mut words = [0u64; 4];
     marks.store(&mut words, 0);
@@ -58,7 +58,7 @@ fn words_of(marks: CacheSet) -> [u64; 4]
 pub fn put_marks(out: &mut [u8], at: usize, sets: u64, marks: CacheSet) -> usize
     requires sets_bound { sets ≤ 256 }
     requires sets_in_bounds { at + sets / 4 ≤ length out.old }
-    ensures { Wrote out.old at (marksText sets marks) out.new result }
+    ensures { Wrote out.old at (marks_text sets marks) out.new result }
 {
     let words = words_of(marks);
     let below_w3 = put_word(out, at, words[3], bits_in(sets, 3) / 4);
@@ -77,7 +77,7 @@ fn word_fits(word: u64, bits: usize) -> bool
 
 // Whether every mark is that of one of so many cache sets.
 pub fn marks_fit(sets: u64, marks: CacheSet) -> bool
-    ensures { result ≡ marksFit sets marks }
+    ensures { result ≡ marks_fit sets marks }
 {
     let words = words_of(marks);
     word_fits(words[0], bits_in(sets, 0))

@@ -3,8 +3,8 @@
 ghost use Rattle.std.specs.Prelude.{◌≡◌, ◌+◌, ◌≤◌, take};
 ghost use Rattle.board.specs.Board.{Lent};
 ghost use Rattle.one_row.specs.Row.{Charged};
-ghost use Rattle.analysis.specs.Analysis.{leastOnUnder, Blocks, AllBlock};
-ghost use Rattle.need.specs.Needs.{isSooner, needWith, largerNeed, smallerOf, neededOn, needOn};
+ghost use Rattle.analysis.specs.Analysis.{least_on_under, Blocks, AllBlock};
+ghost use Rattle.need.specs.Needs.{is_sooner, need_with, larger_need, smaller_of, needed_on, need_on};
 
 use accesses::{Access, Blockers};
 use demand::Response;
@@ -24,7 +24,7 @@ pub struct Need {
 
 // Whether the first of two needs is the smaller. What is beyond every time that is looked at is larger than any of them.
 fn is_sooner(a: Response, b: Response) -> bool
-    ensures { result ≡ isSooner a b }
+    ensures { result ≡ is_sooner a b }
 {
     let Response::Within(x) = a else {
         return false;
@@ -37,7 +37,7 @@ fn is_sooner(a: Response, b: Response) -> bool
 
 // The larger of two needs, and the first where they are equal.
 fn larger(a: Need, b: Need) -> Need
-    ensures { result ≡ largerNeed a b }
+    ensures { result ≡ larger_need a b }
 {
     let first = a.time;
     let second = b.time;
@@ -46,7 +46,7 @@ fn larger(a: Need, b: Need) -> Need
 
 // The smaller of two needs, and the second where they are equal.
 fn smaller(a: Need, b: Need) -> Need
-    ensures { result ≡ smallerOf a b }
+    ensures { result ≡ smaller_of a b }
 {
     let first = a.time;
     let second = b.time;
@@ -56,7 +56,7 @@ fn smaller(a: Need, b: Need) -> Need
 // What the task at i of a board needs under one of the methods 0 to 4 while an access blocks it. `row` has the charges of the method without the access.
 fn need_while(board: &[u64], method: u64, i: usize, row: &[u64; ROW], access: Access) -> Need
     requires { (method ≤ 4) × Lent board.now (i + 1) × Charged board.now method i 0 row.now × Blocks i access }
-    ensures { result ≡ needWith (λ a. leastOnUnder board.now a method i 250000000) method access }
+    ensures { result ≡ need_with (λ a. least_on_under board.now a method i 250000000) method access }
 {
     let ticks = analysis::least_under(board, method, i, Ticks(FURTHEST), row, access);
     let time = demand::told(ticks);
@@ -71,7 +71,7 @@ fn need_while(board: &[u64], method: u64, i: usize, row: &[u64; ROW], access: Ac
 // The largest of these over all that may block the task.
 fn need_under(board: &[u64], method: u64, i: usize, blockers: Blockers) -> Need
     requires { (method ≤ 4) × Lent board.now (i + 1) × AllBlock i blockers }
-    ensures { result ≡ neededOn board.now (take blockers.count blockers.accesses) method i }
+    ensures { result ≡ needed_on board.now (take blockers.count blockers.accesses) method i }
 {
     let row = one_row::charged(board, method, i);
     let first = blockers.accesses[0];
@@ -89,7 +89,7 @@ fn need_under(board: &[u64], method: u64, i: usize, blockers: Blockers) -> Need
 // The need that explains what one of the methods 0 to 5 answers. Method 5 is explained by 3 or by 4.
 pub fn explained(board: &[u64], method: u64, i: usize, blockers: Blockers) -> Need
     requires { (method ≤ 5) × Lent board.now (i + 1) × AllBlock i blockers }
-    ensures { result ≡ needOn board.now (take blockers.count blockers.accesses) method i }
+    ensures { result ≡ need_on board.now (take blockers.count blockers.accesses) method i }
 {
     if method < 5 {
         return need_under(board, method, i, blockers);

@@ -13,9 +13,9 @@ use borrow.Author.Count.{below_more}
 use borrow.Author.Tests.{ltb-true, ltb-false, eqb-true, eqb-false}
 use Rattle.demand.specs.Positions.{between}
 use Rattle.costs.specs.declared.Hit.{Hit}
-use Rattle.costs.specs.Gather.{hit, largestAt}
+use Rattle.costs.specs.Gather.{hit, largest_at}
 use Rattle.costs.proofs.HitLaws.{first-largest, only_one}
-use Rattle.one_row.specs.Shared.{AtMost, isAhead, ahead_of}
+use Rattle.one_row.specs.Shared.{AtMost, is_ahead, ahead_of}
 
 -- ---- what the test says
 
@@ -38,18 +38,18 @@ module _ (P : Bool → Type 0) (a b : Hit) (is : Ahead a b → P true) (is-not :
       let least = ltb-false b.reloads.0 a.reloads.0 d in
       is-not (least, λ l. omega (arith, eqb-false b.reloads.0 a.reloads.0 e))
 
-  ahead-test : P (isAhead a b)
+  ahead-test : P (is_ahead a b)
   ahead-test = by_tests (ltb b.reloads.0 a.reloads.0) (eqb b.reloads.0 a.reloads.0) (ltb a.victim b.victim) refl refl refl
 
 -- what holds of either of two where it is ahead
 ahead-by : (P : Hit → Type 0) (a b : Hit) → (Ahead b a → P b) → (Behind b a → P a) → P (ahead_of a b)
 ahead-by P a b second first = ahead-test (λ t. P (cond t b a)) b a second first
 
-pub ahead-is : (a b : Hit) (t : Bool) → isAhead b a ≡ t → cond t b a ≡ ahead_of a b
+pub ahead-is : (a b : Hit) (t : Bool) → is_ahead b a ≡ t → cond t b a ≡ ahead_of a b
 ahead-is a b t e = ap (λ (t : Bool). cond t b a) (sym e)
 
 -- a position whose bound is not ahead need not be looked at
-pub ahead-passed : (best : Hit) (k n most : ℕ) → n ≤ most → isAhead (hit most k) best ≡ false → best ≡ ahead_of best (hit n k)
+pub ahead-passed : (best : Hit) (k n most : ℕ) → n ≤ most → is_ahead (hit most k) best ≡ false → best ≡ ahead_of best (hit n k)
 ahead-passed best k n most h e = ahead-by (λ r. best ≡ r) best (hit n k) (λ a. absurd (never a)) (λ _. refl)
   where
     behind : Behind (hit most k) best
@@ -106,7 +106,7 @@ module _ (F : ℕ → ℕ) (from to : ℕ) where
       less a m g b = ⊎_elim (λ l. omega (arith, p.most m g b)) (λ e. omega (arith, p.first m g b (omega arith))) a
 
   -- all were passed: it is the first of the largest
-  pub leads-all : (best : Hit) → from < to → Leads F from to to best → best ≡ largestAt F (between from to)
+  pub leads-all : (best : Hit) → from < to → Leads F from to to best → best ≡ largest_at F (between from to)
   leads-all best some p =
       only_one F from to
       (record { from_on = p.from_on; below = p.below; value = p.value; most = p.most; first = λ l g b. p.first l g (omega (arith, p.below)) b })

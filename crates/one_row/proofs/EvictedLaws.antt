@@ -7,16 +7,16 @@ use lib.ListN.{length, replicate, get_or-replicate}
 use Rattle.sets.specs.Sets.{Set}
 use Rattle.sets.proofs.SetLaws.{size-le, size-inter-mono}
 use Rattle.demand.specs.Positions.{between, hp}
-use Rattle.board.specs.Board.{ecbOn}
+use Rattle.board.specs.Board.{ecb_on}
 use Rattle.costs.specs.declared.Hit.{Hit}
 use Rattle.costs.specs.declared.Charge.TheVariants.{Victim}
-use Rattle.costs.specs.Gather.{unionOf, largestAt}
-use Rattle.costs.specs.Listed.{hitPut}
+use Rattle.costs.specs.Gather.{union_of, largest_at}
+use Rattle.costs.specs.Listed.{hit_put}
 use Rattle.costs.proofs.UnionLaws.{union_more}
 use Rattle.costs.proofs.HitLaws.{first-largest}
 use Rattle.costs.proofs.ListedLaws.{hit_same}
 use Rattle.one_row.specs.Row.{Charged}
-use Rattle.one_row.specs.Shared.{sharedOn, AtMost}
+use Rattle.one_row.specs.Shared.{shared_on, AtMost}
 use Rattle.one_row.proofs.RowLaws.{charged-none, hit-in-front}
 use Rattle.one_row.proofs.AheadLaws.{bound-less}
 
@@ -27,7 +27,7 @@ pub record Evicted (board : List ℕ) (i j : ℕ) (row bounds : List ℕ) (likel
   pub charged : Charged board 4 i j row
   pub from_on : j ≤ likely
   pub below : likely < i + 1
-  pub bounded : AtMost (sharedOn board (unionOf (ecbOn board) (hp j))) bounds
+  pub bounded : AtMost (shared_on board (union_of (ecb_on board) (hp j))) bounds
 
 module _ {board : List ℕ} (i : ℕ) (few : i < 32) where
   -- no UCB has more than all cache sets
@@ -41,24 +41,24 @@ module _ {board : List ℕ} (i : ℕ) (few : i < 32) where
   }
 
   module _ {row bounds : List ℕ} {likely : ℕ} (from j : ℕ) (next : from ≡ j + 1) (p : Evicted board i from row bounds likely)
-      (ecbs : Set) (down : ecbs ≡ unionOf (ecbOn board) (hp (j + 1))) where
+      (ecbs : Set) (down : ecbs ≡ union_of (ecb_on board) (hp (j + 1))) where
     -- what the search is told
-    pub evicted-bounds : AtMost (sharedOn board ecbs) bounds
+    pub evicted-bounds : AtMost (shared_on board ecbs) bounds
     evicted-bounds = rw down (rw next at p.bounded)
 
     -- and what it leaves
-    pub evicted-next : {after : List ℕ} (shared : Hit) → shared ≡ largestAt (sharedOn board ecbs) (between from (i + 1))
-        → AtMost (sharedOn board ecbs) after → Evicted board i j (hitPut row j shared) after shared.victim
+    pub evicted-next : {after : List ℕ} (shared : Hit) → shared ≡ largest_at (shared_on board ecbs) (between from (i + 1))
+        → AtMost (shared_on board ecbs) after → Evicted board i j (hit_put row j shared) after shared.victim
     evicted-next shared found bounds =
         let some : j < i = omega (arith, p.above) in
         let largest = rw (next, down) at found in
-        let victim = rw (← largest) at (first-largest (sharedOn board (unionOf (ecbOn board) (hp (j + 1)))) (j + 1) (i + 1) (omega arith)) in
+        let victim = rw (← largest) at (first-largest (shared_on board (union_of (ecb_on board) (hp (j + 1)))) (j + 1) (i + 1) (omega arith)) in
         record {
           above = omega arith;
           charged = hit-in-front 4 i from j (omega arith) some next p.charged shared
               (ap Victim (hit_same row j shared (omega (arith, p.charged.long)) ∙ largest));
           from_on = omega (arith, victim.from_on);
           below = victim.below;
-          bounded = bound-less (rw down at bounds) (sharedOn board (unionOf (ecbOn board) (hp j)))
-              (λ k. size-inter-mono _ _ _ _ (λ s h. h) (union_more (ecbOn board) 0 j (omega arith)));
+          bounded = bound-less (rw down at bounds) (shared_on board (union_of (ecb_on board) (hp j)))
+              (λ k. size-inter-mono _ _ _ _ (λ s h. h) (union_more (ecb_on board) 0 j (omega arith)));
         }

@@ -6,31 +6,31 @@
 use Rattle.std.specs.Prelude.{ℕ, ◌+◌, ◌≤◌, ◌<◌, ◌≡◌, Bool, cond, ◌||◌, List, length, get_or, eqb}
 use Rattle.sets.specs.Stored.{set_at}
 use Rattle.demand.specs.Positions.{hp}
-use Rattle.board.specs.Board.{ecbOn}
+use Rattle.board.specs.Board.{ecb_on}
 use Rattle.costs.specs.declared.Charge.{Charge}
 use Rattle.costs.specs.declared.Charge.TheVariants.{Victim}
-use Rattle.costs.specs.Gather.{unionOf}
-use Rattle.costs.specs.Listed.{hitOn}
-use Rattle.costs.specs.Costs.{noVictim, chargeOn}
+use Rattle.costs.specs.Gather.{union_of}
+use Rattle.costs.specs.Listed.{hit_on}
+use Rattle.costs.specs.Costs.{no_victim, charge_on}
 
 -- whether the count of a method is that of a single task
-abbrev pub hasVictim : ℕ → Bool
-hasVictim m = eqb m 2 || eqb m 4
+abbrev pub has_victim : ℕ → Bool
+has_victim m = eqb m 2 || eqb m 4
 
 -- the charge of the task at j that such a list tells under method m
-abbrev pub chargeIn : List ℕ → ℕ → ℕ → Charge
-chargeIn row m j = cond (hasVictim m) (Victim (hitOn row j)) (noVictim (get_or row j 0))
+abbrev pub charge_in : List ℕ → ℕ → ℕ → Charge
+charge_in row m j = cond (has_victim m) (Victim (hit_on row j)) (no_victim (get_or row j 0))
 
 -- a list that tells these charges under method m of the tasks above i, from the position `from` on
 pub record Tells (G : ℕ → Charge) (m i from : ℕ) (row : List ℕ) : Type 0 where
   pub long : length row ≡ 64
-  pub each : (j : ℕ) → from ≤ j → j < i → chargeIn row m j ≡ G j
+  pub each : (j : ℕ) → from ≤ j → j < i → charge_in row m j ≡ G j
 
 -- those that the board gives
 abbrev pub Charged : List ℕ → ℕ → ℕ → ℕ → List ℕ → Type 0
-Charged board m i = Tells (chargeOn board m i) m i
+Charged board m i = Tells (charge_on board m i) m i
 
 -- a list of words that has, at each position above i, the union of the ECBs down to it
 pub record Evictors (board : List ℕ) (i : ℕ) (unions : List ℕ) : Type 0 where
   pub long : length unions ≡ 128
-  pub each : (j : ℕ) → j < i → set_at unions j ≡ unionOf (ecbOn board) (hp (j + 1))
+  pub each : (j : ℕ) → j < i → set_at unions j ≡ union_of (ecb_on board) (hp (j + 1))

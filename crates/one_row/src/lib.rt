@@ -5,7 +5,7 @@ mod search;
 
 ghost use Rattle.std.specs.Prelude.{◌≡◌, ◌+◌, ◌<◌, ◌≤◌, length};
 ghost use Rattle.board.specs.Board.{Lent};
-ghost use Rattle.one_row.specs.Row.{chargeIn, Charged, Evictors};
+ghost use Rattle.one_row.specs.Row.{charge_in, Charged, Evictors};
 
 use board::{ECBS, UCBS};
 use costs::{Charge, Hit, hit_at, keep_hit, larger};
@@ -115,7 +115,7 @@ pub fn charged(board: &[u64], method: u64, i: usize) -> [u64; ROW]
 // What the task at j is charged, by the row of a method.
 pub fn charge_at(row: &[u64], method: u64, j: usize) -> Charge
     requires { 32 + j < length row.now }
-    ensures { result ≡ chargeIn row.now method j }
+    ensures { result ≡ charge_in row.now method j }
 {
     if (method == 2) | (method == 4) {
         return Charge::Victim(hit_at(row, j));

@@ -3,8 +3,8 @@ ghost use Rattle.std.specs.Prelude.{◌≡◌, ◌<◌, ◌≤◌, length};
 ghost use Rattle.sets.specs.Words.{members};
 ghost use Rattle.demand.specs.Positions.{between};
 ghost use Rattle.board.specs.Board.{Lent};
-ghost use Rattle.costs.specs.Gather.{hit, largestAt};
-ghost use Rattle.one_row.specs.Shared.{sharedOn, AtMost, isAhead, ahead_of};
+ghost use Rattle.costs.specs.Gather.{hit, largest_at};
+ghost use Rattle.one_row.specs.Shared.{shared_on, AtMost, is_ahead, ahead_of};
 
 use board::UCBS;
 use costs::Hit;
@@ -13,7 +13,7 @@ use units::Reloads;
 
 // Whether the first of two hits is the larger, or as large and of higher priority.
 fn is_ahead(a: Hit, b: Hit) -> bool
-    ensures { result ≡ isAhead a b }
+    ensures { result ≡ is_ahead a b }
 {
     (b.reloads.0 < a.reloads.0) | ((b.reloads.0 == a.reloads.0) & (a.victim < b.victim))
 }
@@ -21,8 +21,8 @@ fn is_ahead(a: Hit, b: Hit) -> bool
 // Of the best so far and what the UCB at k shares with the ECBs the one that is ahead. No UCB shares more than its number in `bounds`, so this one is not
 // looked at where as much would not be ahead; where it is looked at, the number becomes what it shares.
 fn look_at(board: &[u64], k: usize, ecbs: CacheSet, best: Hit, bounds: &mut [u64; 32]) -> Hit
-    requires { (k < 32) × (length board.now ≡ 417) × AtMost (sharedOn board.now (members ecbs)) bounds.old }
-    ensures { (result ≡ ahead_of best (hit (sharedOn board.now (members ecbs) k) k)) × AtMost (sharedOn board.now (members ecbs)) bounds.new }
+    requires { (k < 32) × (length board.now ≡ 417) × AtMost (shared_on board.now (members ecbs)) bounds.old }
+    ensures { (result ≡ ahead_of best (hit (shared_on board.now (members ecbs) k) k)) × AtMost (shared_on board.now (members ecbs)) bounds.new }
 {
     let reloads = Reloads(bounds[k]);
     let bound = Hit { reloads, victim: k };
@@ -45,8 +45,8 @@ pub fn largest_shared(
     likely: usize,
     bounds: &mut [u64; 32],
 ) -> Hit
-    requires { (from ≤ likely) × (likely < to) × Lent board.now to × AtMost (sharedOn board.now (members ecbs)) bounds.old }
-    ensures { (result ≡ largestAt (sharedOn board.now (members ecbs)) (between from to)) × AtMost (sharedOn board.now (members ecbs)) bounds.new }
+    requires { (from ≤ likely) × (likely < to) × Lent board.now to × AtMost (shared_on board.now (members ecbs)) bounds.old }
+    ensures { (result ≡ largest_at (shared_on board.now (members ecbs)) (between from to)) × AtMost (shared_on board.now (members ecbs)) bounds.new }
 {
     let mut best = look_at(board, likely, ecbs, Hit::none(likely), bounds);
     for k in from..to {

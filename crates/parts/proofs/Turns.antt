@@ -11,13 +11,13 @@ use lib.ListN.{length, drop, length-append}
 use lib.Seq.{drop_at}
 use borrow.Author.Tests.{le-leb, leb-true}
 use Rattle.delivery.specs.declared.Written.{Written}
-use Rattle.delivery.specs.Delivery.{written_of, bufferOf, Delivered}
+use Rattle.delivery.specs.Delivery.{written_of, buffer_of, Delivered}
 use Rattle.parts.specs.Parts.{turns, length_of, Repeated}
 
 -- a text is delivered again as it was the first time
 module _ (text before : List ℕ) where
   abbrev Alike : List ℕ → Type 0
-  Alike b = (written_of text b ≡ written_of text before) × (bufferOf text b ≡ bufferOf text before)
+  Alike b = (written_of text b ≡ written_of text before) × (buffer_of text b ≡ buffer_of text before)
 
   where-it-fits : length text ≤ length before → Alike (text ++ drop (length text) before)
   where-it-fits fits =
@@ -28,7 +28,7 @@ module _ (text before : List ℕ) where
   once true e = where-it-fits (leb-true _ _ e)
   once false e = (refl, refl)
 
-  pub delivered-again : (n : ℕ) → Alike (turns n before (bufferOf text before))
+  pub delivered-again : (n : ℕ) → Alike (turns n before (buffer_of text before))
   delivered-again zero = (refl, refl)
   delivered-again (suc n) = once (leb (length text) (length before)) refl
 

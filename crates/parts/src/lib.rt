@@ -1,17 +1,17 @@
 // The parts of the work, each as often as asked, for a benchmark to time apart. specs/Parts.antt says what each gives.
 ghost use Rattle.std.specs.Prelude.{◌≡◌};
 ghost use Rattle.table.specs.Accepted.{AcceptedTable};
-ghost use Rattle.table_text.specs.TableText.{tableText};
+ghost use Rattle.table_text.specs.TableText.{table_text};
 ghost use Rattle.readable.specs.Readable.{Readable};
-ghost use Rattle.crpd.specs.Operations.{reportIn};
-ghost use Rattle.parts.specs.Parts.{turns, taskCount, ticksOf, firstTicks, answered, length_of, Repeated, lengthAfter, bufferAfter};
+ghost use Rattle.crpd.specs.Operations.{report_in};
+ghost use Rattle.parts.specs.Parts.{turns, task_count, ticks_of, first_ticks, answered, length_of, Repeated, length_after, buffer_after};
 
 use delivery::Written;
 use demand::Response;
 use table::{Ruling, Table};
 
 fn ticks(response: Response) -> u64
-    ensures { result ≡ ticksOf response }
+    ensures { result ≡ ticks_of response }
 {
     match response {
         Response::Within(time) => time.0,
@@ -30,7 +30,7 @@ fn written_len(written: Written) -> u64
 
 fn answer(table: Table, times: u64) -> u64
     requires { AcceptedTable table }
-    ensures { result ≡ turns times 0 (firstTicks table) }
+    ensures { result ≡ turns times 0 (first_ticks table) }
 {
     let mut first = 0;
     for _ in 0..times {
@@ -45,7 +45,7 @@ fn answer(table: Table, times: u64) -> u64
 
 fn write(table: Table, times: u64, out: &mut [u8]) -> u64
     requires { AcceptedTable table }
-    ensures { Repeated (reportIn table) times out.old result out.new }
+    ensures { Repeated (report_in table) times out.old result out.new }
 {
     let rows = rows::responses(table);
     let mut len = 0;
@@ -57,7 +57,7 @@ fn write(table: Table, times: u64, out: &mut [u8]) -> u64
 
 fn rewrite(table: Table, times: u64, out: &mut [u8]) -> u64
     requires { Readable table }
-    ensures { Repeated (tableText table) times out.old result out.new }
+    ensures { Repeated (table_text table) times out.old result out.new }
 {
     let mut len = 0;
     for _ in 0..times {
@@ -69,7 +69,7 @@ fn rewrite(table: Table, times: u64, out: &mut [u8]) -> u64
 // The number of tasks of the table that a text says; 0 where it is refused.
 #[unsafe(no_mangle)]
 pub extern "C" fn bench_read(text: &[u8]) -> u64
-    ensures { result ≡ taskCount text.now }
+    ensures { result ≡ task_count text.now }
 {
     let outcome = table::read(text);
     let table = outcome.table;
@@ -93,7 +93,7 @@ pub extern "C" fn bench_answers(text: &[u8], times: u64) -> u64
 // The report, written `times` over at the start of the buffer: its length, or 0 where none is written.
 #[unsafe(no_mangle)]
 pub extern "C" fn bench_write(text: &[u8], times: u64, out: &mut [u8]) -> u64
-    ensures { (result ≡ lengthAfter reportIn text.now times out.old) × (out.new ≡ bufferAfter reportIn text.now times out.old) }
+    ensures { (result ≡ length_after report_in text.now times out.old) × (out.new ≡ buffer_after report_in text.now times out.old) }
 {
     let outcome = table::read(text);
     let ruling = outcome.ruling;
@@ -107,7 +107,7 @@ pub extern "C" fn bench_write(text: &[u8], times: u64, out: &mut [u8]) -> u64
 // The text, written `times` over from its table at the start of the buffer: its length, or 0 where none is written.
 #[unsafe(no_mangle)]
 pub extern "C" fn bench_rewrite(text: &[u8], times: u64, out: &mut [u8]) -> u64
-    ensures { (result ≡ lengthAfter tableText text.now times out.old) × (out.new ≡ bufferAfter tableText text.now times out.old) }
+    ensures { (result ≡ length_after table_text text.now times out.old) × (out.new ≡ buffer_after table_text text.now times out.old) }
 {
     let outcome = table::read(text);
     let ruling = outcome.ruling;

@@ -8,31 +8,31 @@ use borrow.Author.Tests.{ltb-true, lt-ltb, eqb-true, ne_eqb, eq-eqb}
 use lib.Dec.{ltb, eqb}
 use lib.ListN.{length, get_or, length-append}
 use lib.Seq.{append_snoc, get_or-append-add}
-use Rattle.text.specs.Cut.{up_to, after, occurrences, pastTabs, field, lead, lines}
+use Rattle.text.specs.Cut.{up_to, after, occurrences, past_tabs, field, lead, lines}
 use Rattle.text.proofs.Joins.{rejoined, one_less, uncut}
 use Rattle.text.proofs.Lines.{lines_step}
-use Rattle.fields.specs.Bytes.{everyByte}
-use Rattle.faults.specs.Faults.{isEnded}
-use Rattle.writer.specs.Text.{afterTab}
+use Rattle.fields.specs.Bytes.{every_byte}
+use Rattle.faults.specs.Faults.{is_ended}
+use Rattle.writer.specs.Text.{after_tab}
 
 -- ---- bytes that end neither a field nor a line
 
 -- every byte is above LF and tab
 abbrev pub Plain : List ℕ → Type 0
-Plain s = everyByte (ltb 10) s ≡ true
+Plain s = every_byte (ltb 10) s ≡ true
 
 pub plain-append : (s t : List ℕ) → Plain s → Plain t → Plain (s ++ t)
-unfolding everyByte
+unfolding every_byte
 plain-append [] t p q = q
 plain-append (b ∷ s) t p q =
-    let both = (and-eq-true_iff (ltb 10 b) (everyByte (ltb 10) s)).0 p in
+    let both = (and-eq-true_iff (ltb 10 b) (every_byte (ltb 10) s)).0 p in
     rw both.0 (plain-append s t both.1 q)
 
 absent : (c : ℕ) (s : List ℕ) → c ≤ 10 → Plain s → occurrences c s ≡ 0
-unfolding everyByte occurrences
+unfolding every_byte occurrences
 absent c [] h p = refl
 absent c (b ∷ s) h p =
-    let both = (and-eq-true_iff (ltb 10 b) (everyByte (ltb 10) s)).0 p in
+    let both = (and-eq-true_iff (ltb 10 b) (every_byte (ltb 10) s)).0 p in
     let l : 10 < b = ltb-true 10 b both.0 in
     rw (ne_eqb b c (λ e. omega arith)) (omega (arith, absent c s h both.1))
 
@@ -66,7 +66,7 @@ occurrences-append c (b ∷ s) t = omega (arith, occurrences-append c s t)
 
 -- the fields with tabs between them
 abbrev pub joined : List ℕ → List (List ℕ) → List ℕ
-joined first others = first ++ flat_map afterTab others
+joined first others = first ++ flat_map after_tab others
 
 abbrev pub AllPlain : List (List ℕ) → Type 0
 AllPlain [] = Unit {0}
@@ -75,46 +75,46 @@ AllPlain (f ∷ fs) = Plain f × AllPlain fs
 first_field : (f : List ℕ) (fs : List (List ℕ)) → Plain f → up_to 9 (joined f fs) ≡ f
 unfolding flat_map
 first_field f [] p = rw (append-nil f) (uncut 9 f (absent 9 f (omega arith) p))
-first_field f (g ∷ fs) p = up-to-seam 9 (g ++ flat_map afterTab fs) f (absent 9 f (omega arith) p)
+first_field f (g ∷ fs) p = up-to-seam 9 (g ++ flat_map after_tab fs) f (absent 9 f (omega arith) p)
 
 other-fields : (f g : List ℕ) (fs : List (List ℕ)) → Plain f → after 9 (joined f (g ∷ fs)) ≡ joined g fs
 unfolding flat_map
-other-fields f g fs p = after-seam 9 (g ++ flat_map afterTab fs) f (absent 9 f (omega arith) p)
+other-fields f g fs p = after-seam 9 (g ++ flat_map after_tab fs) f (absent 9 f (omega arith) p)
 
-past_next : (k : ℕ) (line : List ℕ) → pastTabs (suc k) line ≡ pastTabs k (after 9 line)
-unfolding pastTabs
+past_next : (k : ℕ) (line : List ℕ) → past_tabs (suc k) line ≡ past_tabs k (after 9 line)
+unfolding past_tabs
 past_next zero line = refl
 past_next (suc k) line = ap (after 9) (past_next k line)
 
 pub field_at : (k : ℕ) (f : List ℕ) (fs : List (List ℕ)) → AllPlain (f ∷ fs) → k < suc (length fs) → field k (joined f fs) ≡ get_or (f ∷ fs) k []
-unfolding field pastTabs
+unfolding field past_tabs
 field_at zero f fs p h = first_field f fs p.0
 field_at (suc k) f [] p h = absurd (omega arith)
 field_at (suc k) f (g ∷ fs) p h =
-    ap (up_to 9) (past_next k (joined f (g ∷ fs)) ∙ ap (pastTabs k) (other-fields f g fs p.0)) ∙ field_at k g fs p.1 (omega arith)
+    ap (up_to 9) (past_next k (joined f (g ∷ fs)) ∙ ap (past_tabs k) (other-fields f g fs p.0)) ∙ field_at k g fs p.1 (omega arith)
 
 pub tabs-joined : (f : List ℕ) (fs : List (List ℕ)) → AllPlain (f ∷ fs) → occurrences 9 (joined f fs) ≡ length fs
 unfolding flat_map occurrences
 tabs-joined f [] p = rw (append-nil f) (absent 9 f (omega arith) p.0)
 tabs-joined f (g ∷ fs) p =
-    occurrences-append 9 f (9 ∷ (g ++ flat_map afterTab fs))
+    occurrences-append 9 f (9 ∷ (g ++ flat_map after_tab fs))
     ∙ omega (arith, absent 9 f (omega arith) p.0, tabs-joined g fs p.1)
 
 pub joined-plain : (f : List ℕ) (fs : List (List ℕ)) → AllPlain (f ∷ fs) → occurrences 10 (joined f fs) ≡ 0
 unfolding flat_map occurrences
 joined-plain f [] p = rw (append-nil f) (absent 10 f (omega arith) p.0)
 joined-plain f (g ∷ fs) p =
-    occurrences-append 10 f (9 ∷ (g ++ flat_map afterTab fs))
+    occurrences-append 10 f (9 ∷ (g ++ flat_map after_tab fs))
     ∙ omega (arith, absent 10 f (omega arith) p.0, joined-plain g fs p.1)
 
 -- ---- the fields of a line make up the line
 
 -- its n fields after the first
-abbrev pub fieldsAfter : ℕ → List ℕ → List (List ℕ)
-fieldsAfter zero line = []
-fieldsAfter (suc n) line = up_to 9 (after 9 line) ∷ fieldsAfter n (after 9 line)
+abbrev pub fields_after : ℕ → List ℕ → List (List ℕ)
+fields_after zero line = []
+fields_after (suc n) line = up_to 9 (after 9 line) ∷ fields_after n (after 9 line)
 
-pub rejoined-line : (n : ℕ) (line : List ℕ) → occurrences 9 line ≡ n → line ≡ joined (up_to 9 line) (fieldsAfter n line)
+pub rejoined-line : (n : ℕ) (line : List ℕ) → occurrences 9 line ≡ n → line ≡ joined (up_to 9 line) (fields_after n line)
 unfolding flat_map
 rejoined-line zero line h = sym (rw (append-nil (up_to 9 line)) (uncut 9 line h))
 rejoined-line (suc n) line h =
@@ -150,7 +150,7 @@ last-at : (b : ℕ) (s : List ℕ) → get_or (b ∷ s) (length s) 0 ≡ 10 → 
 last-at b [] e = e
 last-at b (c ∷ s) e = last-at c s e
 
-last-ends : (s : List ℕ) → isEnded s ≡ true → LastEnds s
+last-ends : (s : List ℕ) → is_ended s ≡ true → LastEnds s
 last-ends [] e = tt
 last-ends (b ∷ s) e =
     let last : suc (length s) - 1 ≡ length s = omega arith in
@@ -170,18 +170,18 @@ ended-last (b ∷ c ∷ s) h = go (eqb b 10) refl (ended-last (c ∷ s) h)
         rw step (ap (λ (l : List ℕ). b ∷ l) (rw step at ih))
 
 -- a text that is ended is its lines, each with its LF
-pub ended-lines : (text : List ℕ) → isEnded text ≡ true → ended (lines text) ≡ text
+pub ended-lines : (text : List ℕ) → is_ended text ≡ true → ended (lines text) ≡ text
 ended-lines text e = ended-last text (last-ends text e)
 
 -- and what is put together so is ended
-ended-after : (s t : List ℕ) → isEnded t ≡ true → isEnded (s ++ t) ≡ true
+ended-after : (s t : List ℕ) → is_ended t ≡ true → is_ended (s ++ t) ≡ true
 ended-after s t e =
     let p = (and-eq-true_iff (ltb 0 (length t)) (eqb (get_or t (length t - 1) 0) 10)).0 e in
     let some : 0 < length t = ltb-true 0 (length t) p.0 in
     let last : length s + length t - 1 ≡ length s + (length t - 1) = omega arith in
     rw (length-append, lt-ltb 0 (length s + length t) (omega arith), last, get_or-append-add s t (length t - 1) 0) p.1
 
-pub is-ended : (l : List ℕ) (ls : List (List ℕ)) → isEnded (ended (l ∷ ls)) ≡ true
+pub is-ended : (l : List ℕ) (ls : List (List ℕ)) → is_ended (ended (l ∷ ls)) ≡ true
 unfolding flat_map
 is-ended l [] = rw (append-nil (l ++ (10 ∷ []))) (ended-after l (10 ∷ []) refl)
 is-ended l (m ∷ ls) = ended-after (l ++ (10 ∷ [])) (ended (m ∷ ls)) (is-ended m ls)

@@ -10,139 +10,139 @@ use borrow.Author.Tests.{eqb-true, eq-eqb, ne_eqb, lt-ltb, lt-leb}
 use lib.Dec.{eqb, leb, ltb}
 use lib.ListN.{length, take, drop, take-append-drop}
 use lib.Seq.{take_all, drop-append_seam}
-use Rattle.text.specs.Cut.{after, occurrences, pastTabs, field, fieldCount}
+use Rattle.text.specs.Cut.{after, occurrences, past_tabs, field, field_count}
 use Rattle.text.proofs.Parts.{up-to-part}
-use Rattle.fields.specs.Bytes.{everyByte, isNameByte, sameBytes}
-use Rattle.fields.specs.Fields.{is_number, number, isLetter, hasShape, isName}
+use Rattle.fields.specs.Bytes.{every_byte, is_name_byte, same_bytes}
+use Rattle.fields.specs.Fields.{is_number, number, is_letter, has_shape, is_name}
 use Rattle.sets.specs.declared.CacheSet.{CacheSet}
 use Rattle.sets.specs.declared.SetField.{SetField}
 use Rattle.sets.specs.declared.SetField.TheVariants.{Marks, Bad}
-use Rattle.sets.specs.Field.{readSet}
+use Rattle.sets.specs.Field.{read_set}
 use Rattle.sets.specs.Words.{number_of}
 use Rattle.tasks.specs.declared.Name.{Name}
 use Rattle.tasks.specs.declared.Task.{Task}
-use Rattle.tasks.specs.Tasks.{nameText, packName}
-use Rattle.tasks.specs.Said.{isMarks, marksOf, headSaid, timesSaid, fieldsSaid, taskSaid}
+use Rattle.tasks.specs.Tasks.{name_text, pack_name}
+use Rattle.tasks.specs.Said.{is_marks, marks_of, head_said, times_said, fields_said, task_said}
 use Rattle.tasks.proofs.Names.{name-short, name-kept}
 use Rattle.faults.proofs.Known.{same-bytes-self}
 use Rattle.faults.proofs.LineLaws.{HeadHolds, TaskHolds, ranges, order}
 use Rattle.table.specs.declared.Table.{Table}
-use Rattle.table.specs.Reading.{headTable}
-use Rattle.writer.specs.Text.{digitByte, spelled}
+use Rattle.table.specs.Reading.{head_table}
+use Rattle.writer.specs.Text.{digit_byte, spelled}
 use Rattle.writer.proofs.Spelling.{spelled-low, spelled-high, by_digits}
-use Rattle.marks.specs.Marks.{hexByte, hexDigits, marksText, marksFit}
+use Rattle.marks.specs.Marks.{hex_byte, hex_digits, marks_text, marks_fit}
 use Rattle.marks.proofs.Fields.{marks-read, read_fits, read-text}
-use Rattle.table_text.specs.TableText.{timeTexts, setTexts}
-use Rattle.readable.specs.Tests.{head_of, fillers, isFilled, lineOfTask}
+use Rattle.table_text.specs.TableText.{time_texts, set_texts}
+use Rattle.readable.specs.Tests.{head_of, fillers, is_filled, line_of_task}
 use Rattle.readable.proofs.Numbers.{number_read, number-text}
 use Rattle.readable.proofs.Lines.{Plain, plain-append, joined, AllPlain, field_at, tabs-joined, rejoined-line}
 
 -- ---- bytes
 
-pub same-is : (s t : List ℕ) → sameBytes s t ≡ true → s ≡ t
-unfolding sameBytes
+pub same-is : (s t : List ℕ) → same_bytes s t ≡ true → s ≡ t
+unfolding same_bytes
 same-is [] [] e = refl
 same-is [] (c ∷ t) e = let z : ◌≡◌ {A = ℕ} 0 1 = cc in absurd (omega arith)
 same-is (b ∷ s) [] e = let z : ◌≡◌ {A = ℕ} 0 1 = cc in absurd (omega arith)
 same-is (b ∷ s) (c ∷ t) e =
-    let p = (and-eq-true_iff (eqb b c) (sameBytes s t)).0 e in
+    let p = (and-eq-true_iff (eqb b c) (same_bytes s t)).0 e in
     ap₂ (λ (x : ℕ) (l : List ℕ). x ∷ l) (eqb-true b c p.0) (same-is s t p.1)
 
 -- ---- a name
 
 -- a name that is filled up is what its text is packed to
-pub filled-name : (n : Name) → isFilled n ≡ true → (isName (nameText n) ≡ true) × (packName (nameText n) ≡ n)
-unfolding isFilled
+pub filled-name : (n : Name) → is_filled n ≡ true → (is_name (name_text n) ≡ true) × (pack_name (name_text n) ≡ n)
+unfolding is_filled
 filled-name n e =
-    let p = (and-eq-true_iff (isName (nameText n)) _).0 e in
-    let f = nameText n in
+    let p = (and-eq-true_iff (is_name (name_text n)) _).0 e in
+    let f = name_text n in
     let tail = same-is (drop (length f) n.bytes) (drop (length f) fillers) p.1 in
     let bytes : take 12 f ++ drop (length f) fillers ≡ n.bytes =
     rw (take_all 12 f (name-short f p.0), ← tail) (ap (λ (s : List ℕ). s ++ drop (length f) n.bytes) (sym (up-to-part 0 n.bytes)) ∙ take-append-drop (length f) n.bytes) in
     (p.0, λ i. record { bytes = bytes i })
 
 -- and what a name is packed to is filled up
-pub packed-filled : (f : List ℕ) → isName f ≡ true → isFilled (packName f) ≡ true
-unfolding isFilled
+pub packed-filled : (f : List ℕ) → is_name f ≡ true → is_filled (pack_name f) ≡ true
+unfolding is_filled
 packed-filled f h =
     rw (name-kept f h, h, take_all 12 f (name-short f h), drop-append_seam f (drop (length f) fillers)) (same-bytes-self (drop (length f) fillers))
 
 -- ---- no field that is written holds a tab or an LF
 
 pub number-plain : (n : ℕ) → Plain (spelled n)
-unfolding everyByte
+unfolding every_byte
 number-plain =
     by_digits (λ n. Plain (spelled n))
     (λ n l. rw (spelled-low n l, lt-ltb 10 (48 + n) (omega arith)))
-    (λ n l ih. rw (spelled-high n l) (plain-append (spelled (n / 10)) (digitByte (n % 10) ∷ []) ih (rw (lt-ltb 10 (48 + n % 10) (omega arith)))))
+    (λ n l ih. rw (spelled-high n l) (plain-append (spelled (n / 10)) (digit_byte (n % 10) ∷ []) ih (rw (lt-ltb 10 (48 + n % 10) (omega arith)))))
 
-hex-byte-plain : (d : ℕ) → ltb 10 (hexByte d) ≡ true
-unfolding hexByte
+hex-byte-plain : (d : ℕ) → ltb 10 (hex_byte d) ≡ true
+unfolding hex_byte
 hex-byte-plain d = go (ltb d 10)
   where
     go : (t : Bool) → ltb 10 (cond t (48 + d) (87 + d)) ≡ true
     go true = lt-ltb 10 (48 + d) (omega arith)
     go false = lt-ltb 10 (87 + d) (omega arith)
 
-digits-plain : (k n : ℕ) → Plain (hexDigits k n)
-unfolding everyByte hexDigits
+digits-plain : (k n : ℕ) → Plain (hex_digits k n)
+unfolding every_byte hex_digits
 digits-plain zero n = refl
-digits-plain (suc k) n = plain-append (hexDigits k (n / 16)) (hexByte (n % 16) ∷ []) (digits-plain k (n / 16)) (rw (hex-byte-plain (n % 16)))
+digits-plain (suc k) n = plain-append (hex_digits k (n / 16)) (hex_byte (n % 16) ∷ []) (digits-plain k (n / 16)) (rw (hex-byte-plain (n % 16)))
 
-pub marks-plain : (sets : ℕ) (c : CacheSet) → Plain (marksText sets c)
-unfolding marksText
+pub marks-plain : (sets : ℕ) (c : CacheSet) → Plain (marks_text sets c)
+unfolding marks_text
 marks-plain sets c = digits-plain (sets / 4) (number_of c)
 
-name-byte-plain : (b : ℕ) → isNameByte b ≡ true → ltb 10 b ≡ true
+name-byte-plain : (b : ℕ) → is_name_byte b ≡ true → ltb 10 b ≡ true
 name-byte-plain b e = elim (dec_lt 10 b) [ yes l ↦ lt-ltb 10 b l | no l ↦ absurd (none (omega arith)) ]
   where
     none : b ≤ 10 → ⊥
     none l = false≢true (rw (lt-leb 97 b (omega arith), lt-leb 48 b (omega arith), ne_eqb b 45 (λ q. omega arith)) at e)
 
-bytes-plain : (s : List ℕ) → everyByte isNameByte s ≡ true → Plain s
-unfolding everyByte
+bytes-plain : (s : List ℕ) → every_byte is_name_byte s ≡ true → Plain s
+unfolding every_byte
 bytes-plain [] e = refl
 bytes-plain (b ∷ s) e =
-    let p = (and-eq-true_iff (isNameByte b) (everyByte isNameByte s)).0 e in
+    let p = (and-eq-true_iff (is_name_byte b) (every_byte is_name_byte s)).0 e in
     rw (name-byte-plain b p.0) (bytes-plain s p.1)
 
-pub name-plain : (s : List ℕ) → isName s ≡ true → Plain s
-unfolding isName
-name-plain s e = bytes-plain s ((and-eq-true_iff (leb 1 (length s) && leb (length s) 12) (everyByte isNameByte s)).0 e).1
+pub name-plain : (s : List ℕ) → is_name s ≡ true → Plain s
+unfolding is_name
+name-plain s e = bytes-plain s ((and-eq-true_iff (leb 1 (length s) && leb (length s) 12) (every_byte is_name_byte s)).0 e).1
 
 -- ---- what a written line says
 
 -- a line that has its kind's letter and number of fields has its kind's shape
-pub shape_is : (letter n : ℕ) (fs : List (List ℕ)) → AllPlain ((letter ∷ []) ∷ fs) → length fs + 1 ≡ n → hasShape letter n (joined (letter ∷ []) fs) ≡ true
-unfolding hasShape
+pub shape_is : (letter n : ℕ) (fs : List (List ℕ)) → AllPlain ((letter ∷ []) ∷ fs) → length fs + 1 ≡ n → has_shape letter n (joined (letter ∷ []) fs) ≡ true
+unfolding has_shape
 shape_is letter n fs p e =
     rw (field_at 0 (letter ∷ []) fs p (omega arith), eq-eqb letter letter refl, tabs-joined (letter ∷ []) fs p, eq-eqb (length fs + 1) n e)
 
 -- the fields of a task's line after the first
-abbrev pub taskFields : ℕ → Task → List (List ℕ)
-taskFields sets t = nameText t.name ∷ timeTexts t ++ setTexts sets t
+abbrev pub task_fields : ℕ → Task → List (List ℕ)
+task_fields sets t = name_text t.name ∷ time_texts t ++ set_texts sets t
 
-abbrev pub taskBytes : ℕ → Task → List ℕ
-taskBytes sets t = joined (84 ∷ []) (taskFields sets t)
+abbrev pub task_bytes : ℕ → Task → List ℕ
+task_bytes sets t = joined (84 ∷ []) (task_fields sets t)
 
-module _ (sets : ℕ) (t : Task) (few : sets ≤ 256) (by-four : sets % 4 ≡ 0) {count : ℕ} {names : List Name} (h : TaskHolds count names (lineOfTask sets t)) where
-  name-is : (isName (nameText t.name) ≡ true) × (packName (nameText t.name) ≡ t.name)
-  unfolding lineOfTask
+module _ (sets : ℕ) (t : Task) (few : sets ≤ 256) (by-four : sets % 4 ≡ 0) {count : ℕ} {names : List Name} (h : TaskHolds count names (line_of_task sets t)) where
+  name-is : (is_name (name_text t.name) ≡ true) × (pack_name (name_text t.name) ≡ t.name)
+  unfolding line_of_task
   name-is = filled-name t.name h.named
 
-  sets-fit : (marksFit sets t.ucb ≡ true) × (marksFit sets t.ecb ≡ true)
-  unfolding lineOfTask
-  sets-fit = (and-eq-true_iff (marksFit sets t.ucb) (marksFit sets t.ecb)).0 h.marked
+  sets-fit : (marks_fit sets t.ucb ≡ true) × (marks_fit sets t.ecb ≡ true)
+  unfolding line_of_task
+  sets-fit = (and-eq-true_iff (marks_fit sets t.ucb) (marks_fit sets t.ecb)).0 h.marked
 
   times : (t.work.0 < 1000000000) × (t.period.0 < 1000000000) × (t.deadline.0 < 1000000000) × (t.jitter.0 < 1000000000) × (t.blocking.0 < 1000000000)
-  unfolding lineOfTask
+  unfolding line_of_task
   times =
       let r = ranges t h.in-range in
       let o = order t h.in_order in
       (omega (arith, r.work), omega (arith, r.period), omega (arith, r.deadline), omega (arith, r.deadline, o.0), omega (arith, r.blocking))
 
-  pub plain-fields : AllPlain ((84 ∷ []) ∷ taskFields sets t)
-  unfolding everyByte
+  pub plain-fields : AllPlain ((84 ∷ []) ∷ task_fields sets t)
+  unfolding every_byte
   plain-fields =
       let n = times in (
         refl,
@@ -168,20 +168,20 @@ module _ (sets : ℕ) (t : Task) (few : sets ≤ 256) (by-four : sets % 4 ≡ 0)
       )
 
   -- the line says the task
-  pub line-says : taskSaid sets (taskBytes sets t) ≡ lineOfTask sets t
-  unfolding taskSaid fieldsSaid timesSaid lineOfTask
+  pub line-says : task_said sets (task_bytes sets t) ≡ line_of_task sets t
+  unfolding task_said fields_said times_said line_of_task
   line-says =
-      let fs = taskFields sets t in
-      let L = taskBytes sets t in
+      let fs = task_fields sets t in
+      let L = task_bytes sets t in
       let p = plain-fields in
-      let e1 : field 1 L ≡ nameText t.name = field_at 1 (84 ∷ []) fs p (omega arith) in
+      let e1 : field 1 L ≡ name_text t.name = field_at 1 (84 ∷ []) fs p (omega arith) in
       let e2 : field 2 L ≡ spelled t.work.0 = field_at 2 (84 ∷ []) fs p (omega arith) in
       let e3 : field 3 L ≡ spelled t.period.0 = field_at 3 (84 ∷ []) fs p (omega arith) in
       let e4 : field 4 L ≡ spelled t.deadline.0 = field_at 4 (84 ∷ []) fs p (omega arith) in
       let e5 : field 5 L ≡ spelled t.jitter.0 = field_at 5 (84 ∷ []) fs p (omega arith) in
       let e6 : field 6 L ≡ spelled t.blocking.0 = field_at 6 (84 ∷ []) fs p (omega arith) in
-      let e7 : field 7 L ≡ marksText sets t.ucb = field_at 7 (84 ∷ []) fs p (omega arith) in
-      let e8 : field 8 L ≡ marksText sets t.ecb = field_at 8 (84 ∷ []) fs p (omega arith) in
+      let e7 : field 7 L ≡ marks_text sets t.ucb = field_at 7 (84 ∷ []) fs p (omega arith) in
+      let e8 : field 8 L ≡ marks_text sets t.ecb = field_at 8 (84 ∷ []) fs p (omega arith) in
       let n = times in
       rw (
         shape_is 84 9 fs p refl,
@@ -209,7 +209,7 @@ module _ (sets : ℕ) (t : Task) (few : sets ≤ 256) (by-four : sets % 4 ≡ 0)
 
 -- ---- a line that is read is what is written of what it says
 
-letter-is : (b : ℕ) (s : List ℕ) → isLetter b s ≡ true → s ≡ b ∷ []
+letter-is : (b : ℕ) (s : List ℕ) → is_letter b s ≡ true → s ≡ b ∷ []
 letter-is b [] e = absurd (false≢true e)
 letter-is b (c ∷ []) e = ap (λ (x : ℕ). x ∷ []) (eqb-true c b ((and-eq-true_iff (eqb 1 1) (eqb c b)).0 e).1)
 letter-is b (c ∷ d ∷ s) e =
@@ -217,36 +217,36 @@ letter-is b (c ∷ d ∷ s) e =
     absurd (omega arith)
 
 -- its letter, and how many tabs it has
-pub shape-says : (letter n : ℕ) (line : List ℕ) → hasShape letter n line ≡ true → (field 0 line ≡ letter ∷ []) × (occurrences 9 line + 1 ≡ n)
-unfolding hasShape
+pub shape-says : (letter n : ℕ) (line : List ℕ) → has_shape letter n line ≡ true → (field 0 line ≡ letter ∷ []) × (occurrences 9 line + 1 ≡ n)
+unfolding has_shape
 shape-says letter n line e =
-    let p = (and-eq-true_iff (isLetter letter (field 0 line)) (eqb (fieldCount line) n)).0 e in
-    (letter-is letter (field 0 line) p.0, eqb-true (fieldCount line) n p.1)
+    let p = (and-eq-true_iff (is_letter letter (field 0 line)) (eqb (field_count line) n)).0 e in
+    (letter-is letter (field 0 line) p.0, eqb-true (field_count line) n p.1)
 
-pub marks-are : (r : SetField) → isMarks r ≡ true → r ≡ Marks (marksOf r)
+pub marks-are : (r : SetField) → is_marks r ≡ true → r ≡ Marks (marks_of r)
 marks-are (Marks c) e = refl
 marks-are Bad e = absurd (false≢true e)
 
 nine-fields : (line : List ℕ) → occurrences 9 line + 1 ≡ 9
     → line ≡ joined (field 0 line) (field 1 line ∷ field 2 line ∷ field 3 line ∷ field 4 line ∷ field 5 line ∷ field 6 line ∷ field 7 line ∷ field 8 line ∷ [])
-unfolding field pastTabs
+unfolding field past_tabs
 nine-fields line h = rejoined-line 8 line (omega arith)
 
 three-fields : (line : List ℕ) → occurrences 9 line + 1 ≡ 3 → line ≡ joined (field 0 line) (field 1 line ∷ field 2 line ∷ [])
-unfolding field pastTabs
+unfolding field past_tabs
 three-fields line h = rejoined-line 2 line (omega arith)
 
-module _ (sets : ℕ) (l : List ℕ) (few : sets ≤ 256) (by-four : sets % 4 ≡ 0) {count : ℕ} {names : List Name} (h : TaskHolds count names (taskSaid sets l)) where
+module _ (sets : ℕ) (l : List ℕ) (few : sets ≤ 256) (by-four : sets % 4 ≡ 0) {count : ℕ} {names : List Name} (h : TaskHolds count names (task_said sets l)) where
   shaped-says : (field 0 l ≡ 84 ∷ []) × (occurrences 9 l + 1 ≡ 9)
-  unfolding taskSaid fieldsSaid
+  unfolding task_said fields_said
   shaped-says = shape-says 84 9 l h.shaped
 
-  name-says : isName (field 1 l) ≡ true
-  unfolding taskSaid fieldsSaid
+  name-says : is_name (field 1 l) ≡ true
+  unfolding task_said fields_said
   name-says = h.named
 
   numbers-say : (is_number (field 2 l) ≡ true) × (is_number (field 3 l) ≡ true) × (is_number (field 4 l) ≡ true) × (is_number (field 5 l) ≡ true) × (is_number (field 6 l) ≡ true)
-  unfolding taskSaid fieldsSaid timesSaid
+  unfolding task_said fields_said times_said
   numbers-say =
       let p6 = (and-eq-true_iff _ (is_number (field 6 l))).0 h.numbered in
       let p5 = (and-eq-true_iff _ (is_number (field 5 l))).0 p6.0 in
@@ -255,24 +255,24 @@ module _ (sets : ℕ) (l : List ℕ) (few : sets ≤ 256) (by-four : sets % 4 �
       (p3.0, p3.1, p4.1, p5.1, p6.1)
 
   numbers-small : (number (field 2 l) < 1000000000) × (number (field 3 l) < 1000000000) × (number (field 4 l) < 1000000000) × (number (field 5 l) < 1000000000) × (number (field 6 l) < 1000000000)
-  unfolding taskSaid fieldsSaid timesSaid
+  unfolding task_said fields_said times_said
   numbers-small =
-      let r = ranges (taskSaid sets l).task h.in-range in
-      let o = order (taskSaid sets l).task h.in_order in
+      let r = ranges (task_said sets l).task h.in-range in
+      let o = order (task_said sets l).task h.in_order in
       (omega (arith, r.work), omega (arith, r.period), omega (arith, r.deadline), omega (arith, r.deadline, o.0), omega (arith, r.blocking))
 
-  sets-say : (isMarks (readSet sets (field 7 l)) ≡ true) × (isMarks (readSet sets (field 8 l)) ≡ true)
-  unfolding taskSaid fieldsSaid
-  sets-say = (and-eq-true_iff (isMarks (readSet sets (field 7 l))) (isMarks (readSet sets (field 8 l)))).0 h.marked
+  sets-say : (is_marks (read_set sets (field 7 l)) ≡ true) × (is_marks (read_set sets (field 8 l)) ≡ true)
+  unfolding task_said fields_said
+  sets-say = (and-eq-true_iff (is_marks (read_set sets (field 7 l))) (is_marks (read_set sets (field 8 l)))).0 h.marked
 
-  ucb-says : readSet sets (field 7 l) ≡ Marks (marksOf (readSet sets (field 7 l)))
+  ucb-says : read_set sets (field 7 l) ≡ Marks (marks_of (read_set sets (field 7 l)))
   ucb-says = marks-are _ sets-say.0
 
-  ecb-says : readSet sets (field 8 l) ≡ Marks (marksOf (readSet sets (field 8 l)))
+  ecb-says : read_set sets (field 8 l) ≡ Marks (marks_of (read_set sets (field 8 l)))
   ecb-says = marks-are _ sets-say.1
 
-  pub line-text : l ≡ taskBytes sets (taskSaid sets l).task
-  unfolding taskSaid fieldsSaid timesSaid
+  pub line-text : l ≡ task_bytes sets (task_said sets l).task
+  unfolding task_said fields_said times_said
   line-text =
       let is = numbers-say in
       let n = numbers-small in
@@ -290,8 +290,8 @@ module _ (sets : ℕ) (l : List ℕ) (few : sets ≤ 256) (by-four : sets % 4 �
       ∙ ap (λ (f : List ℕ). joined f (field 1 l ∷ field 2 l ∷ field 3 l ∷ field 4 l ∷ field 5 l ∷ field 6 l ∷ field 7 l ∷ field 8 l ∷ [])) shaped-says.0)
 
   -- and the line that is written says the same
-  pub line_kept : lineOfTask sets (taskSaid sets l).task ≡ taskSaid sets l
-  unfolding taskSaid fieldsSaid timesSaid lineOfTask
+  pub line_kept : line_of_task sets (task_said sets l).task ≡ task_said sets l
+  unfolding task_said fields_said times_said line_of_task
   line_kept =
       rw (
         packed-filled (field 1 l) name-says,
@@ -305,37 +305,37 @@ module _ (sets : ℕ) (l : List ℕ) (few : sets ≤ 256) (by-four : sets % 4 �
 
 -- ---- line 1
 
-abbrev pub headBytes : Table → List ℕ
-headBytes table = joined (75 ∷ []) (spelled table.sets ∷ spelled table.brt.0 ∷ [])
+abbrev pub head_bytes : Table → List ℕ
+head_bytes table = joined (75 ∷ []) (spelled table.sets ∷ spelled table.brt.0 ∷ [])
 
 module _ (table : Table) (h : HeadHolds (head_of table)) where
   head_small : (table.sets < 1000000000) × (table.brt.0 < 1000000000)
   head_small = (omega (arith, h.sets), omega (arith, h.brt))
 
   pub head-fields : AllPlain ((75 ∷ []) ∷ spelled table.sets ∷ spelled table.brt.0 ∷ [])
-  unfolding everyByte
+  unfolding every_byte
   head-fields = (refl, (number-plain _, (number-plain _, tt)))
 
-  pub head-says : headSaid (headBytes table) ≡ head_of table
-  unfolding headSaid
+  pub head-says : head_said (head_bytes table) ≡ head_of table
+  unfolding head_said
   head-says =
       let fs = spelled table.sets ∷ spelled table.brt.0 ∷ [] in
-      let e1 : field 1 (headBytes table) ≡ spelled table.sets = field_at 1 (75 ∷ []) fs head-fields (omega arith) in
-      let e2 : field 2 (headBytes table) ≡ spelled table.brt.0 = field_at 2 (75 ∷ []) fs head-fields (omega arith) in
+      let e1 : field 1 (head_bytes table) ≡ spelled table.sets = field_at 1 (75 ∷ []) fs head-fields (omega arith) in
+      let e2 : field 2 (head_bytes table) ≡ spelled table.brt.0 = field_at 2 (75 ∷ []) fs head-fields (omega arith) in
       rw (shape_is 75 3 fs head-fields refl, e1, e2, number_read table.sets head_small.0, number_read table.brt.0 head_small.1)
 
-module _ (l : List ℕ) (h : HeadHolds (headSaid l)) where
+module _ (l : List ℕ) (h : HeadHolds (head_said l)) where
   head-shaped : (field 0 l ≡ 75 ∷ []) × (occurrences 9 l + 1 ≡ 3)
-  unfolding headSaid
+  unfolding head_said
   head-shaped = shape-says 75 3 l h.shaped
 
-  pub head-text : l ≡ headBytes (headTable (headSaid l))
-  unfolding headSaid
+  pub head-text : l ≡ head_bytes (head_table (head_said l))
+  unfolding head_said
   head-text =
       let is = (and-eq-true_iff (is_number (field 1 l)) (is_number (field 2 l))).0 h.numbered in
       rw (← number-text (field 1 l) is.0 (omega (arith, h.sets)), ← number-text (field 2 l) is.1 (omega (arith, h.brt)))
       (three-fields l head-shaped.1 ∙ ap (λ (f : List ℕ). joined f (field 1 l ∷ field 2 l ∷ [])) head-shaped.0)
 
-  pub head-kept : head_of (headTable (headSaid l)) ≡ headSaid l
-  unfolding headSaid
+  pub head-kept : head_of (head_table (head_said l)) ≡ head_said l
+  unfolding head_said
   head-kept = rw (h.shaped, h.numbered)

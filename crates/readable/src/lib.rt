@@ -1,7 +1,7 @@
 // Whether a table value is one that a text gives. specs/Readable.antt says what that means, and specs/Tests.antt has the tests.
 ghost use Rattle.std.specs.Prelude.{◌≡◌, false, take};
-ghost use Rattle.faults.specs.Faults.{taskFault};
-ghost use Rattle.readable.specs.Tests.{isFine, isFilled, lineOfTask, isVacant, is_placed, lineOfAccess, isUnused, isAllowed, isEntered, everyBelow, isReadable};
+ghost use Rattle.faults.specs.Faults.{task_fault};
+ghost use Rattle.readable.specs.Tests.{is_fine, is_filled, line_of_task, is_vacant, is_placed, line_of_access, is_unused, is_allowed, is_entered, every_below, is_readable};
 
 use access_lines::AccessLine;
 use accesses::Access;
@@ -11,7 +11,7 @@ use table::Table;
 use tasks::{HeadLine, Name, Task, TaskLine};
 
 fn is_fine(finding: Finding) -> bool
-    ensures { result ≡ isFine finding }
+    ensures { result ≡ is_fine finding }
 {
     match finding {
         Finding::Fine => true,
@@ -20,7 +20,7 @@ fn is_fine(finding: Finding) -> bool
 }
 
 fn is_filled(name: Name) -> bool
-    ensures { result ≡ isFilled name }
+    ensures { result ≡ is_filled name }
 {
     let bytes = name.bytes;
     let fillers = [0u8; 12];
@@ -30,7 +30,7 @@ fn is_filled(name: Name) -> bool
 }
 
 fn line_of_task(sets: u64, task: Task) -> TaskLine
-    ensures { result ≡ lineOfTask sets task }
+    ensures { result ≡ line_of_task sets task }
 {
     let name = task.name;
     TaskLine {
@@ -44,14 +44,14 @@ fn line_of_task(sets: u64, task: Task) -> TaskLine
 
 // Whether the line of a task is not refused below `k` others, of which `names` has the names.
 fn is_next(k: usize, names: [Name; 32], sets: u64, task: Task) -> bool
-    ensures { result ≡ isFine (taskFault false k (take k names) (lineOfTask sets task)) }
+    ensures { result ≡ is_fine (task_fault false k (take k names) (line_of_task sets task)) }
 {
     is_fine(faults::task_fault(k, names, line_of_task(sets, task)))
 }
 
 // Whether a place has no task: a set without marks fits where there is no cache set.
 fn is_vacant(task: Task) -> bool
-    ensures { result ≡ isVacant task }
+    ensures { result ≡ is_vacant task }
 {
     let bytes = task.name.bytes;
     let fillers = [0u8; 12];
@@ -66,7 +66,7 @@ fn is_vacant(task: Task) -> bool
 }
 
 fn all_placed(table: Table) -> bool
-    ensures { result ≡ everyBelow 32 (is_placed table) }
+    ensures { result ≡ every_below 32 (is_placed table) }
 {
     let sets = table.sets;
     let none = Name { bytes: [0u8; 12] };
@@ -88,7 +88,7 @@ fn all_placed(table: Table) -> bool
 }
 
 fn line_of_access(sets: u64, access: Access) -> AccessLine
-    ensures { result ≡ lineOfAccess sets access }
+    ensures { result ≡ line_of_access sets access }
 {
     AccessLine {
         shaped: true,
@@ -101,14 +101,14 @@ fn line_of_access(sets: u64, access: Access) -> AccessLine
 
 // Whether an access place has no access.
 fn is_unused(access: Access) -> bool
-    ensures { result ≡ isUnused access }
+    ensures { result ≡ is_unused access }
 {
     (access.task == 0) & (access.ceiling == 0) & (access.lasts.0 == 0) & marks_fit(0, access.ucb)
 }
 
 // Whether access place n holds what it may, in a table of `count` tasks and `held` accesses.
 fn is_allowed(held: usize, count: usize, sets: u64, n: usize, access: Access) -> bool
-    ensures { result ≡ isAllowed held count sets n access }
+    ensures { result ≡ is_allowed held count sets n access }
 {
     if n < held {
         is_fine(access_lines::access_fault(n, count, line_of_access(sets, access)))
@@ -118,7 +118,7 @@ fn is_allowed(held: usize, count: usize, sets: u64, n: usize, access: Access) ->
 }
 
 fn all_entered(table: Table) -> bool
-    ensures { result ≡ everyBelow 32 (isEntered table) }
+    ensures { result ≡ every_below 32 (is_entered table) }
 {
     let sets = table.sets;
     let count = table.count;
@@ -134,7 +134,7 @@ fn all_entered(table: Table) -> bool
 
 // Whether some accepted text reads as this table.
 pub fn is_readable(table: Table) -> bool
-    ensures { result ≡ isReadable table }
+    ensures { result ≡ is_readable table }
 {
     let head = HeadLine {
         shaped: true,

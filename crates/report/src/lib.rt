@@ -1,7 +1,7 @@
 // The report of a table.
 mod lines;
 
-ghost use Rattle.verdicts.specs.Rows.{answersIn};
+ghost use Rattle.verdicts.specs.Rows.{answers_in};
 ghost use Rattle.report.specs.Rows.{Reportable};
 ghost use Rattle.report.specs.Reported.{Reported};
 
@@ -14,7 +14,7 @@ use verdicts::put_verdict_line;
 // The report of a table, from the rows of its answers. It is written aside and delivered whole.
 pub fn report(table: Table, rows: [Row; 32], out: &mut [u8]) -> Written
     requires { Reportable table rows }
-    ensures { Reported table (answersIn rows) out.old result out.new }
+    ensures { Reported table (answers_in rows) out.old result out.new }
 {
     let mut draft = [0u8; 2746];
     let last = put_response_lines(&mut draft, table, rows);

@@ -2,12 +2,12 @@
 ghost use Rattle.std.specs.Prelude.{◌+◌, ◌≤◌, length};
 ghost use mathlib.Core.List.{[], ◌∷◌, ◌++◌, flat_map};
 ghost use Rattle.demand.specs.Positions.{between, methods};
-ghost use Rattle.tasks.specs.Tasks.{nameText, limitOf};
+ghost use Rattle.tasks.specs.Tasks.{name_text, limit_of};
 ghost use Rattle.table.specs.Tasks.{at};
-ghost use Rattle.writer.specs.Text.{spelled, afterTab};
+ghost use Rattle.writer.specs.Text.{spelled, after_tab};
 ghost use Rattle.writer.specs.Wrote.{Wrote};
-ghost use Rattle.report.specs.Report.{answerText, responseLine};
-ghost use Rattle.verdicts.specs.Rows.{answerUnder, answersIn};
+ghost use Rattle.report.specs.Report.{answer_text, response_line};
+ghost use Rattle.verdicts.specs.Rows.{answer_under, answers_in};
 ghost use Rattle.report.specs.Rows.{RowInRange, Limited, Reportable};
 
 use demand::{Response, Row};
@@ -16,8 +16,8 @@ use tasks::Task;
 use writer::{put_byte, put_field, put_number_field};
 
 fn put_answer(out: &mut [u8], at: usize, answer: Response) -> usize
-    requires { at + length (afterTab (answerText answer)) ≤ length out.old }
-    ensures { Wrote out.old at (afterTab (answerText answer)) out.new result }
+    requires { at + length (after_tab (answer_text answer)) ≤ length out.old }
+    ensures { Wrote out.old at (after_tab (answer_text answer)) out.new result }
 {
     match answer {
         Response::Within(time) => put_number_field(out, at, time.0),
@@ -29,7 +29,7 @@ fn put_answer(out: &mut [u8], at: usize, answer: Response) -> usize
 fn put_answers(out: &mut [u8], at: usize, row: Row) -> usize
     requires at_in_bounds { at + 60 ≤ length out.old }
     requires row_in_range { RowInRange row }
-    ensures { Wrote out.old at (flat_map (λ m. afterTab (answerText (answerUnder row m))) methods) out.new result × (result ≤ at + 60) }
+    ensures { Wrote out.old at (flat_map (λ m. after_tab (answer_text (answer_under row m))) methods) out.new result × (result ≤ at + 60) }
 {
     let mut next = at;
     for m in 0..6usize {
@@ -44,7 +44,7 @@ fn put_answers(out: &mut [u8], at: usize, row: Row) -> usize
 fn put_head(out: &mut [u8], at: usize, task: Task) -> usize
     requires at_in_bounds { at + 24 ≤ length out.old }
     requires limited { Limited task }
-    ensures { Wrote out.old at ((82 ∷ []) ++ afterTab (nameText task.name) ++ afterTab (spelled (limitOf task))) out.new result × (result ≤ at + 24) }
+    ensures { Wrote out.old at ((82 ∷ []) ++ after_tab (name_text task.name) ++ after_tab (spelled (limit_of task))) out.new result × (result ≤ at + 24) }
 {
     let bytes = task.name.bytes;
     let start = put_byte(out, at, b'R');
@@ -57,7 +57,7 @@ fn put_response_line(out: &mut [u8], at: usize, task: Task, row: Row) -> usize
     requires at_in_bounds { at + 85 ≤ length out.old }
     requires limited { Limited task }
     requires row_in_range { RowInRange row }
-    ensures { Wrote out.old at (responseLine task (answerUnder row)) out.new result × (result ≤ at + 85) }
+    ensures { Wrote out.old at (response_line task (answer_under row)) out.new result × (result ≤ at + 85) }
 {
     let start = put_head(out, at, task);
     let last = put_answers(out, start, row);
@@ -68,7 +68,7 @@ fn put_response_line(out: &mut [u8], at: usize, task: Task, row: Row) -> usize
 pub fn put_response_lines(out: &mut [u8], table: Table, rows: [Row; 32]) -> usize
     requires in_bounds { 2720 ≤ length out.old }
     requires reportable { Reportable table rows }
-    ensures { Wrote out.old 0 (flat_map (λ i. responseLine (at table i) (λ m. answersIn rows m i)) (between 0 table.count)) out.new result × (result ≤ 2720) }
+    ensures { Wrote out.old 0 (flat_map (λ i. response_line (at table i) (λ m. answers_in rows m i)) (between 0 table.count)) out.new result × (result ≤ 2720) }
 {
     let n = table.count;
     let mut next = 0;

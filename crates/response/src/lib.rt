@@ -1,10 +1,10 @@
 // The search for the smallest time that equals the demand of a task. specs/Counts.antt says how often its terms are known to be activated.
 ghost use Rattle.std.specs.Prelude.{◌≡◌, true, cond, ℕ, ◌+◌, ◌≤◌, ◌<◌, length, get_or};
 ghost use Rattle.demand.specs.Positions.{front};
-ghost use Rattle.demand.specs.Demand.{demandOf};
-ghost use Rattle.demand.specs.Terms.{periodIn, jitterIn, termIn, Handed};
-ghost use Rattle.demand.specs.Least.{leastOf, toldOf};
-ghost use Rattle.response.specs.Counts.{missingOf, asked_of, Counting, Periodic, Kept, Raised, firstEnd, Started};
+ghost use Rattle.demand.specs.Demand.{demand_of};
+ghost use Rattle.demand.specs.Terms.{period_in, jitter_in, term_in, Handed};
+ghost use Rattle.demand.specs.Least.{least_of, told_of};
+ghost use Rattle.response.specs.Counts.{missing_of, asked_of, Counting, Periodic, Kept, Raised, first_end, Started};
 
 use demand::Response;
 use units::Ticks;
@@ -19,7 +19,7 @@ fn one_if(b: bool) -> u64
 // How many activations more there are up to `r` than up to `end`. Where it is none or one, nothing is divided.
 fn missing(period: u64, end: u64, r: u64) -> u64
     requires { (1 ≤ period) × (period ≤ 250000000) × (end ≤ 500000000) × (r ≤ 250000000) }
-    ensures { (result ≡ missingOf period end r) × (result ≤ 250000000) }
+    ensures { (result ≡ missing_of period end r) × (result ≤ 250000000) }
 {
     let one = one_if(end < r);
     let reached = end + one * period;
@@ -85,8 +85,8 @@ fn advance(
 
 // The ends of one activation each: the last time at which no second one has come.
 pub fn first_ends(releases: &[u64], n: usize) -> [u64; 32]
-    requires { (n ≤ 32) × (32 + n ≤ length releases.now) × ((j : ℕ) → j < n → jitterIn releases.now j ≤ periodIn releases.now j) }
-    ensures { result ≡ front 0 (firstEnd releases.now) n }
+    requires { (n ≤ 32) × (32 + n ≤ length releases.now) × ((j : ℕ) → j < n → jitter_in releases.now j ≤ period_in releases.now j) }
+    ensures { result ≡ front 0 (first_end releases.now) n }
 {
     let mut ends = [0u64; 32];
     for i in 0..n {
@@ -105,9 +105,9 @@ fn finish(
     counts: &mut [u64; 32],
     ends: &mut [u64; 32],
 ) -> u64
-    requires { Handed own releases.now weights.now n limit × (asked_of own weights.now counts.old n ≤ limit) × Started own (termIn releases.now weights.now) n counts.old ends.old }
-    ensures result_value { toldOf result ≡ leastOf (demandOf own (termIn releases.now weights.now) n) limit }
-    ensures started { Started own (termIn releases.now weights.now) n counts.new ends.new }
+    requires { Handed own releases.now weights.now n limit × (asked_of own weights.now counts.old n ≤ limit) × Started own (term_in releases.now weights.now) n counts.old ends.old }
+    ensures result_value { told_of result ≡ least_of (demand_of own (term_in releases.now weights.now) n) limit }
+    ensures started { Started own (term_in releases.now weights.now) n counts.new ends.new }
 {
     let start = asked(own, weights, n, counts);
     let found = demand::hasten(own, releases, weights, n, limit, start);
@@ -130,9 +130,9 @@ pub fn least(
     counts: &mut [u64; 32],
     ends: &mut [u64; 32],
 ) -> u64
-    requires { Handed own.0 releases.now weights.now n limit.0 × Started own.0 (termIn releases.now weights.now) n counts.old ends.old }
-    ensures result_value { toldOf result ≡ leastOf (demandOf own.0 (termIn releases.now weights.now) n) limit.0 }
-    ensures started { Started own.0 (termIn releases.now weights.now) n counts.new ends.new }
+    requires { Handed own.0 releases.now weights.now n limit.0 × Started own.0 (term_in releases.now weights.now) n counts.old ends.old }
+    ensures result_value { told_of result ≡ least_of (demand_of own.0 (term_in releases.now weights.now) n) limit.0 }
+    ensures started { Started own.0 (term_in releases.now weights.now) n counts.new ends.new }
 {
     let mut time = asked(own.0, weights, n, counts);
     let mut turns: u64 = 0;

@@ -11,13 +11,13 @@ use lib.ListN.{get_or, length, set, length-set}
 use lib.Seq.{get_or-set_same, get_or-set_other}
 use borrow.Author.Count.{below_more}
 use borrow.Author.Tests.{eqb-true}
-use Rattle.demand.specs.Demand.{Term, ceil, workOf}
+use Rattle.demand.specs.Demand.{Term, ceil, work_of}
 use Rattle.demand.specs.Terms.{InRange}
 use Rattle.demand.proofs.DemandLaws.{ceil-mul, ceil-is}
 use Rattle.shares.specs.Shares.{share_of}
 use Rattle.shares.proofs.ShareLaws.{release-share, work-share}
-use Rattle.rounds.specs.Classes.{inClass, AskMore}
-use Rattle.rounds.specs.Rounds.{Near, lackOf, lackIn, lacksOf, Lacking, LacksIn, LeastOver, Blocked, IsStep, place_of, WindowsIn, windowAt, Windowed, Tabled}
+use Rattle.rounds.specs.Classes.{in_class, AskMore}
+use Rattle.rounds.specs.Rounds.{Near, lack_of, lack_in, lacks_of, Lacking, LacksIn, LeastOver, Blocked, IsStep, place_of, WindowsIn, window_at, Windowed, Tabled}
 use Rattle.rounds.proofs.ClassLaws.{ask-each}
 
 -- ---- one term
@@ -43,25 +43,25 @@ pub near_next : (period at : ℕ) → 1 ≤ period → Near period (at + 1) (cei
 near_next period at h = (ceil at period, refl, omega (arith, ceil-before at period h), omega (arith, ceil-mul at period h))
 
 -- what one term lacks at most
-pub lack-most : (period jitter share x : ℕ) → 1 ≤ period → period ≤ 16384 → jitter ≤ period → share ≤ 17179869184 → lackOf period jitter share x ≤ 562949953421312
+pub lack-most : (period jitter share x : ℕ) → 1 ≤ period → period ≤ 16384 → jitter ≤ period → share ≤ 17179869184 → lack_of period jitter share x ≤ 562949953421312
 lack-most period jitter share x some short jitters shares =
     mul-le-mul {n₂ = 32768} {m₂ = 17179869184} (omega (arith, ceil-before (x + jitter) period some)) shares
 
 -- a term added at the first i ticks, and not yet at the others
 pub record Adding (period jitter share i : ℕ) (before after : List ℕ) : Type 0 where
   pub long : length after ≡ 18952
-  pub each : (x : ℕ) → x < i → get_or after x 0 ≡ get_or before x 0 + lackOf period jitter share x
+  pub each : (x : ℕ) → x < i → get_or after x 0 ≡ get_or before x 0 + lack_of period jitter share x
   pub rest : (x : ℕ) → i ≤ x → get_or after x 0 ≡ get_or before x 0
 
 module _ (period jitter share : ℕ) (before : List ℕ) where
   pub adding-none : length before ≡ 18952 → Adding period jitter share 0 before before
   adding-none h = record { long = h; each = λ x l. absurd (omega arith); rest = λ x l. refl }
 
-  pub adding-next : (i y : ℕ) (after : List ℕ) → i < 18952 → y ≡ lackOf period jitter share i → Adding period jitter share i before after
+  pub adding-next : (i y : ℕ) (after : List ℕ) → i < 18952 → y ≡ lack_of period jitter share i → Adding period jitter share i before after
       → Adding period jitter share (i + 1) before (set after i (get_or after i 0 + y))
   adding-next i y after few is a = record {
     long = simp length-set a.long;
-    each = below_more (λ x. get_or (set after i (get_or after i 0 + y)) x 0 ≡ get_or before x 0 + lackOf period jitter share x) i
+    each = below_more (λ x. get_or (set after i (get_or after i 0 + y)) x 0 ≡ get_or before x 0 + lack_of period jitter share x) i
         (λ x l. get_or-set_other after i x _ 0 (λ z. omega arith) ∙ a.each x l)
         (get_or-set_same after i _ 0 (omega (arith, a.long)) ∙ omega (arith, a.rest i (omega arith)));
     rest = λ x l. get_or-set_other after i x _ 0 (λ z. omega arith) ∙ a.rest x (omega arith);
@@ -83,11 +83,11 @@ module _ (ticks : ℕ) (t : Term) (p : InRange t) where
       omega (arith, ap (λ (z : ℕ). z * T) e)
 
   -- so that the term asks for as much beyond its share in each
-  lack-asked : (c x : ℕ) → lackIn ticks t x + (c * ticks + x) * share_of t ≤ 17179869184 * workOf (c * ticks + x) t
+  lack-asked : (c x : ℕ) → lack_in ticks t x + (c * ticks + x) * share_of t ≤ 17179869184 * work_of (c * ticks + x) t
   lack-asked c x = go (eqb (ticks % t.period) 0) refl
     where
       go : (b : Bool) → eqb (ticks % t.period) 0 ≡ b
-          → cond b (lackOf t.period t.jitter (share_of t) x) 0 + (c * ticks + x) * share_of t ≤ 17179869184 * workOf (c * ticks + x) t
+          → cond b (lack_of t.period t.jitter (share_of t) x) 0 + (c * ticks + x) * share_of t ≤ 17179869184 * work_of (c * ticks + x) t
       go true e =
           let q = share_of t in
           let z = ceil (x + t.jitter) t.period * t.period in
@@ -101,9 +101,9 @@ module _ (ticks : ℕ) (t : Term) (p : InRange t) where
 
 -- and so do the terms of a round together
 module _ (classes : List ℕ) (round ticks : ℕ) (t : ℕ → Term) (n : ℕ) (ranged : (j : ℕ) → j < n → InRange (t j)) where
-  lacks-asked : (c x : ℕ) → AskMore (inClass classes round) t n (lacksOf classes round ticks t n x) (c * ticks + x)
-  unfolding lacksOf
-  lacks-asked c x = ask-each (inClass classes round) t (c * ticks + x) (λ j. lackIn ticks (t j) x) n (λ j l. lack-asked ticks (t j) (ranged j l) c x)
+  lacks-asked : (c x : ℕ) → AskMore (in_class classes round) t n (lacks_of classes round ticks t n x) (c * ticks + x)
+  unfolding lacks_of
+  lacks-asked c x = ask-each (in_class classes round) t (c * ticks + x) (λ j. lack_in ticks (t j) x) n (λ j l. lack-asked ticks (t j) (ranged j l) c x)
 
 -- ---- windows
 

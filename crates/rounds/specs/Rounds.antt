@@ -4,7 +4,7 @@ use Rattle.std.specs.Prelude.{ℕ, ◌+◌, ◌-◌, ◌*◌, ◌/◌, ◌%◌, 
 use Rattle.rounds.specs.declared.Rounds.{Rounds}
 use Rattle.demand.specs.Demand.{Term, ceil}
 use Rattle.shares.specs.Shares.{share_of}
-use Rattle.rounds.specs.Classes.{sumOver, inClass, taken, sharesOver, AskMore}
+use Rattle.rounds.specs.Classes.{sum_over, in_class, taken, shares_over, AskMore}
 
 -- ---- one term
 
@@ -13,17 +13,17 @@ abbrev pub Near : ℕ → ℕ → ℕ → Type 0
 Near period at release = (k : ℕ) × (release ≡ k * period) × (release < at + period) × (at ≤ release + period)
 
 -- how long it is from x to the end of the activations until then, and the share of it
-abbrev pub lackOf : ℕ → ℕ → ℕ → ℕ → ℕ
-lackOf period jitter share x = (ceil (x + jitter) period * period - x) * share
+abbrev pub lack_of : ℕ → ℕ → ℕ → ℕ → ℕ
+lack_of period jitter share x = (ceil (x + jitter) period * period - x) * share
 
 -- the same for a term whose period divides a round, x ticks after one began; of any other nothing is known
-abbrev pub lackIn : ℕ → Term → ℕ → ℕ
-lackIn ticks t x = cond (eqb (ticks % t.period) 0) (lackOf t.period t.jitter (share_of t) x) 0
+abbrev pub lack_in : ℕ → Term → ℕ → ℕ
+lack_in ticks t x = cond (eqb (ticks % t.period) 0) (lack_of t.period t.jitter (share_of t) x) 0
 
 -- ---- the terms of a round
 
-unfoldable pub lacksOf : List ℕ → ℕ → ℕ → (ℕ → Term) → ℕ → ℕ → ℕ
-lacksOf classes round ticks t n x = sumOver (inClass classes round) (λ j. lackIn ticks (t j) x) n
+unfoldable pub lacks_of : List ℕ → ℕ → ℕ → (ℕ → Term) → ℕ → ℕ → ℕ
+lacks_of classes round ticks t n x = sum_over (in_class classes round) (λ j. lack_in ticks (t j) x) n
 
 -- lists of what is lacking at the first `count` ticks: `terms` terms lack no more than so much
 pub record Lacking (terms count : ℕ) (lacks : List ℕ) : Type 0 where
@@ -32,12 +32,12 @@ pub record Lacking (terms count : ℕ) (lacks : List ℕ) : Type 0 where
 
 pub record Added (period jitter share count : ℕ) (before after : List ℕ) : Type 0 where
   pub long : length after ≡ 18952
-  pub each : (x : ℕ) → x < count → get_or after x 0 ≡ get_or before x 0 + lackOf period jitter share x
-  pub each-most : (x : ℕ) → x < count → lackOf period jitter share x ≤ 562949953421312
+  pub each : (x : ℕ) → x < count → get_or after x 0 ≡ get_or before x 0 + lack_of period jitter share x
+  pub each-most : (x : ℕ) → x < count → lack_of period jitter share x ≤ 562949953421312
 
 pub record LacksIn (t : ℕ → Term) (n : ℕ) (classes : List ℕ) (round ticks count : ℕ) (lacks : List ℕ) : Type 0 where
   pub lacking : Lacking n count lacks
-  pub each : (x : ℕ) → x < count → get_or lacks x 0 ≡ lacksOf classes round ticks t n x
+  pub each : (x : ℕ) → x < count → get_or lacks x 0 ≡ lacks_of classes round ticks t n x
 
 -- ---- windows
 
@@ -63,22 +63,22 @@ pub record WindowsIn (blocks : List ℕ) (round ticks step : ℕ) (before after 
   pub others : (i : ℕ) → (i < 4096 * round + 2048 / step) ⊎ (4096 * round + 2 * (2048 / step) ≤ i) → get_or after i 0 ≡ get_or before i 0
 
 -- the window in which a time is, in a round of so many ticks
-abbrev pub windowAt : List ℕ → ℕ → ℕ → ℕ → ℕ → ℕ
-windowAt entries round ticks step s = get_or entries (place_of round step (s % ticks / (8 * step))) 0
+abbrev pub window_at : List ℕ → ℕ → ℕ → ℕ → ℕ → ℕ
+window_at entries round ticks step s = get_or entries (place_of round step (s % ticks / (8 * step))) 0
 
 -- what the windows of a round say: from any time on, for as long as four steps, its terms ask for as much beyond their shares
 pub record Windowed (t : ℕ → Term) (n : ℕ) (classes : List ℕ) (round ticks : ℕ) (entries : List ℕ) : Type 0 where
   pub some : 1 ≤ ticks
   pub short : ticks ≤ 16384
-  pub most : (step s : ℕ) → IsStep step → windowAt entries round ticks step s ≤ 18014398509481984
-  pub asked : (step s d : ℕ) → IsStep step → d < 32 * step → AskMore (inClass classes round) t n (windowAt entries round ticks step s) (s + d)
+  pub most : (step s : ℕ) → IsStep step → window_at entries round ticks step s ≤ 18014398509481984
+  pub asked : (step s d : ℕ) → IsStep step → d < 32 * step → AskMore (in_class classes round) t n (window_at entries round ticks step s) (s + d)
 
 -- the windows of a round are made, and the others stand
 pub record Tabled (t : ℕ → Term) (n : ℕ) (classes : List ℕ) (round ticks low : ℕ) (before after : List ℕ) : Type 0 where
   pub long : length after ≡ 32768
   pub windowed : Windowed t n classes round ticks after
   pub low-most : low ≤ 18014398509481984
-  pub low-asked : (s : ℕ) → AskMore (inClass classes round) t n low s
+  pub low-asked : (s : ℕ) → AskMore (in_class classes round) t n low s
   pub others : (i : ℕ) → i < 4096 * round → get_or after i 0 ≡ get_or before i 0
 
 -- ---- some rounds
@@ -89,7 +89,7 @@ pub record RoundsOf (t : ℕ → Term) (n : ℕ) (r : Rounds) (entries : List �
   pub long : length entries ≡ 32768
   pub few : r.made ≤ 8
   pub windowed : (v : ℕ) → v < r.made → Windowed t n r.classes v (get_or r.ticks v 0) entries
-  pub free-is : r.free + sharesOver (taken r.classes) t n ≡ 17179869184
+  pub free-is : r.free + shares_over (taken r.classes) t n ≡ 17179869184
   pub free-least : 1 ≤ r.free
   pub low-most : r.low ≤ 144115188075855872
   pub low-asked : (s : ℕ) → AskMore (taken r.classes) t n r.low s

@@ -2,10 +2,10 @@
 // which terms are in which.
 ghost use Rattle.std.specs.Prelude.{◌≡◌, ◌&&◌, ℕ, ◌+◌, ◌-◌, ◌*◌, ◌%◌, ◌≤◌, ◌<◌, eqb, length};
 ghost use Rattle.demand.specs.Demand.{ceil};
-ghost use Rattle.demand.specs.Terms.{termIn, Handed};
+ghost use Rattle.demand.specs.Terms.{term_in, Handed};
 ghost use Rattle.shares.specs.Shares.{shares_of};
 ghost use Rattle.grouping.specs.Grouping.{ShortTaken};
-ghost use Rattle.rounds.specs.Classes.{sharesOver, taken};
+ghost use Rattle.rounds.specs.Classes.{shares_over, taken};
 ghost use Rattle.rounds.specs.Rounds.{Near, Lacking, LeastOver, Added, LacksIn, Blocked, IsStep, WindowsIn, Tabled, RoundsOf};
 
 use demand::JITTERS;
@@ -36,7 +36,7 @@ pub struct Rounds {
 // What those of them leave that are taken by their shares.
 fn left_by_taken(releases: &[u64], weights: &[u64], n: usize, classes: &[usize; 32]) -> u64
     requires { Handed 1 releases.now weights.now n 0 × (length classes.now ≡ 32) }
-    ensures { result ≡ 17179869184 - sharesOver (taken classes.now) (termIn releases.now weights.now) n }
+    ensures { result ≡ 17179869184 - shares_over (taken classes.now) (term_in releases.now weights.now) n }
 {
     let mut left = WHOLE;
     for i in 0..n {
@@ -92,8 +92,8 @@ fn lacking(
     ticks: u64,
     count: usize,
 ) -> [u64; LACKS]
-    requires { Handed 1 releases.now weights.now n 0 × (shares_of (termIn releases.now weights.now) n < 17179869184) × ShortTaken releases.now n classes.now × (round < 8) × (count ≤ 18952) }
-    ensures { LacksIn (termIn releases.now weights.now) n classes.now round ticks count result }
+    requires { Handed 1 releases.now weights.now n 0 × (shares_of (term_in releases.now weights.now) n < 17179869184) × ShortTaken releases.now n classes.now × (round < 8) × (count ≤ 18952) }
+    ensures { LacksIn (term_in releases.now weights.now) n classes.now round ticks count result }
 {
     let mut lacks = [0u64; LACKS];
     for i in 0..n {
@@ -165,8 +165,8 @@ fn tabulate(
     ticks: u64,
     entries: &mut [u64; WINDOWS],
 ) -> u64
-    requires { Handed 1 releases.now weights.now n 0 × (shares_of (termIn releases.now weights.now) n < 17179869184) × ShortTaken releases.now n classes.now × (round < 8) × (1 ≤ ticks) × (ticks ≤ 16384) × (length entries.old ≡ 32768) }
-    ensures { Tabled (termIn releases.now weights.now) n classes.now round ticks result entries.old entries.new }
+    requires { Handed 1 releases.now weights.now n 0 × (shares_of (term_in releases.now weights.now) n < 17179869184) × ShortTaken releases.now n classes.now × (round < 8) × (1 ≤ ticks) × (ticks ≤ 16384) × (length entries.old ≡ 32768) }
+    ensures { Tabled (term_in releases.now weights.now) n classes.now round ticks result entries.old entries.new }
 {
     let count = ticks as usize / 8 + 321;
     let lacks = lacking(releases, weights, n, classes, round, ticks, 8 * count);
@@ -180,8 +180,8 @@ fn tabulate(
 
 // Rounds for the first `n` terms, and their windows.
 pub fn make(releases: &[u64], weights: &[u64], n: usize, entries: &mut [u64; WINDOWS]) -> Rounds
-    requires { Handed 1 releases.now weights.now n 0 × (shares_of (termIn releases.now weights.now) n < 17179869184) × (length entries.old ≡ 32768) }
-    ensures { RoundsOf (termIn releases.now weights.now) n result entries.new }
+    requires { Handed 1 releases.now weights.now n 0 × (shares_of (term_in releases.now weights.now) n < 17179869184) × (length entries.old ≡ 32768) }
+    ensures { RoundsOf (term_in releases.now weights.now) n result entries.new }
 {
     let mut classes = [COUNTED; 32];
     let mut ticks = [1u64; 8];

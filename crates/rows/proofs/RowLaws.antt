@@ -16,83 +16,83 @@ use Rattle.demand.specs.declared.Response.{Response}
 use Rattle.demand.specs.declared.Response.TheVariants.{Within, Unschedulable}
 use Rattle.demand.specs.declared.Cell.{Cell}
 use Rattle.demand.specs.declared.Row.{Row}
-use Rattle.demand.specs.Demand.{termOf, demandOf, NoMore}
-use Rattle.demand.specs.Terms.{periodIn, jitterIn, termIn, InRange, Handed}
-use Rattle.demand.specs.Least.{leastOf, toldOf, sooner, later}
+use Rattle.demand.specs.Demand.{term_of, demand_of, NoMore}
+use Rattle.demand.specs.Terms.{period_in, jitter_in, term_in, InRange, Handed}
+use Rattle.demand.specs.Least.{least_of, told_of, sooner, later}
 use Rattle.demand.proofs.LaterLaws.{latest-one}
 use Rattle.demand.proofs.DemandLaws.{demand-same, no-more-self, none_from, handed-for}
 use Rattle.demand.proofs.FrontLaws.{front_same}
-use Rattle.response.specs.Counts.{firstEnd, Started}
+use Rattle.response.specs.Counts.{first_end, Started}
 use Rattle.response.proofs.CountLaws.{ones-started, started-same, started-next, started-harder}
 use Rattle.tasks.specs.Tasks.{no_sets}
 use Rattle.accesses.specs.declared.Access.{Access}
 use Rattle.accesses.specs.declared.Blockers.{Blockers}
-use Rattle.accesses.specs.Accesses.{mayBlock, blocking, or_else, addedBy, plainAccess, emptyAccess, Listed}
+use Rattle.accesses.specs.Accesses.{may_block, blocking, or_else, added_by, plain_access, empty_access, Listed}
 use Rattle.accesses.proofs.BlockingLaws.{Every, every_of, every-blocking, every-or, listed-each}
 use Rattle.table.specs.declared.Table.{Table}
-use Rattle.table.specs.Tasks.{at, accessesOf, accessAt}
+use Rattle.table.specs.Tasks.{at, accesses_of, access_at}
 use Rattle.table.specs.Accepted.{AcceptedTable}
-use Rattle.board.specs.Board.{workOn, ownOn, limitOn, brtOn, ucbOn, ecbOn, BoardOf, Lent}
+use Rattle.board.specs.Board.{work_on, own_on, limit_on, brt_on, ucb_on, ecb_on, BoardOf, Lent}
 use Rattle.board.proofs.LentLaws.{lent-few, lent-long, lent-ranged}
-use Rattle.costs.specs.Costs.{reloadsWith, weightOnUnder, termOnUnder}
+use Rattle.costs.specs.Costs.{reloads_with, weight_on_under, term_on_under}
 use Rattle.costs.proofs.OrderLaws.{ucb-union-with, ecb-union-with}
 use Rattle.costs.proofs.BoardLaws.{weight-past, on-ranged, terms-in, lent-handed}
 use Rattle.carried.specs.Carried.{Weighed, WeighedUnder}
-use Rattle.analysis.specs.Analysis.{answer_of, leastOnUnder, latestOn, withCombined, responseOf, cell, row_of, no_row, rows_of, Blocks}
+use Rattle.analysis.specs.Analysis.{answer_of, least_on_under, latest_on, with_combined, response_of, cell, row_of, no_row, rows_of, Blocks}
 use Rattle.analysis.proofs.AnswerLaws.{answer-is, latest-first, latest-step}
 use Rattle.rows.specs.declared.Singles.{Singles}
-use Rattle.rows.specs.Rows.{plainAccessOn, blockersOn, rowOn, Tell, Searched, Falls, TellUnder, TellWanted, TellOver, LaterEach, rowTold, plainOn, Left, BlocksOn, AllBlockOn, Answered, LentAccesses}
+use Rattle.rows.specs.Rows.{plain_access_on, blockers_on, row_on, Tell, Searched, Falls, TellUnder, TellWanted, TellOver, LaterEach, row_told, plain_on, Left, BlocksOn, AllBlockOn, Answered, LentAccesses}
 
 -- the weights under method m, in a list of those of the methods 0 to 4
-abbrev pub weightsUnder : List ℕ → ℕ → List ℕ
-weightsUnder weights m = take 32 (drop (m * 32) weights)
+abbrev pub weights_under : List ℕ → ℕ → List ℕ
+weights_under weights m = take 32 (drop (m * 32) weights)
 
 -- a method that never has larger weights than m: UCB-Union for ECB-Only, ECB-Union for UCB-Only, and no reloads at all for the others
 abbrev pub cheaper : ℕ → ℕ
 cheaper m = get_or (0 ∷ 3 ∷ 4 ∷ 0 ∷ 0 ∷ []) m 0
 
 -- what the task at i has of its own while an access blocks it
-abbrev pub ownUnder : List ℕ → Access → ℕ → ℕ
-ownUnder board a i = workOn board i + a.lasts.0
+abbrev pub own_under : List ℕ → Access → ℕ → ℕ
+own_under board a i = work_on board i + a.lasts.0
 
 -- ---- the weights of a row are those of its task, while an access blocks it
 
 module _ {board : List ℕ} {n : ℕ} (lent : Lent board n) (a : Access) (i : ℕ) (here : i < n) (blocks : Blocks i a) {ws : List ℕ} (weighed : WeighedUnder board a i ws)
     (m : ℕ) (h : m ≤ 4) where
-  each : (j : ℕ) → j < i → get_or (weightsUnder ws m) j 0 ≡ weightOnUnder board a m i j
+  each : (j : ℕ) → j < i → get_or (weights_under ws m) j 0 ≡ weight_on_under board a m i j
   each j l =
       let few = lent-few lent in
       get_or-take 32 (drop (m * 32) ws) j 0 (omega arith) ∙ get_or-drop (m * 32) ws j 0 ∙ weighed.each m j h l
 
-  pub row-handed : Handed (ownUnder board a i) board (weightsUnder ws m) i (limitOn board i)
+  pub row-handed : Handed (own_under board a i) board (weights_under ws m) i (limit_on board i)
   row-handed =
       let few = lent-few lent in
       let long = weighed.long in
-      lent-handed lent a m i here (weightsUnder ws m) each (simp (length-take, length-drop) (omega arith)) blocks.lasts
+      lent-handed lent a m i here (weights_under ws m) each (simp (length-take, length-drop) (omega arith)) blocks.lasts
 
-  same-term : (j : ℕ) → j < i → termIn board (weightsUnder ws m) j ≡ termOnUnder board a m i j
-  same-term = terms-in lent a m i here (weightsUnder ws m) each
+  same-term : (j : ℕ) → j < i → term_in board (weights_under ws m) j ≡ term_on_under board a m i j
+  same-term = terms-in lent a m i here (weights_under ws m) each
 
-  row-answer : leastOf (demandOf (ownUnder board a i) (termIn board (weightsUnder ws m)) i) (limitOn board i) ≡ leastOnUnder board a m i (limitOn board i)
-  row-answer = ap (λ (f : ℕ → ℕ). leastOf f (limitOn board i)) (demand-same (ownUnder board a i) _ _ i same-term)
+  row-answer : least_of (demand_of (own_under board a i) (term_in board (weights_under ws m)) i) (limit_on board i) ≡ least_on_under board a m i (limit_on board i)
+  row-answer = ap (λ (f : ℕ → ℕ). least_of f (limit_on board i)) (demand-same (own_under board a i) _ _ i same-term)
 
-  pub started-row : {counts ends : List ℕ} → Started (ownUnder board a i) (termIn board (weightsUnder ws m)) i counts ends
-      → Started (ownUnder board a i) (termOnUnder board a m i) i counts ends
+  pub started-row : {counts ends : List ℕ} → Started (own_under board a i) (term_in board (weights_under ws m)) i counts ends
+      → Started (own_under board a i) (term_on_under board a m i) i counts ends
   started-row = started-same _ i _ _ _ _ same-term
 
-  pub row-started : {counts ends : List ℕ} → Started (ownUnder board a i) (termOnUnder board a m i) i counts ends
-      → Started (ownUnder board a i) (termIn board (weightsUnder ws m)) i counts ends
+  pub row-started : {counts ends : List ℕ} → Started (own_under board a i) (term_on_under board a m i) i counts ends
+      → Started (own_under board a i) (term_in board (weights_under ws m)) i counts ends
   row-started = started-same _ i _ _ _ _ (λ j l. sym (same-term j l))
 
   -- what such a search answers
-  pub row-searched : {wanted r : ℕ} → Searched wanted (leastOf (demandOf (ownUnder board a i) (termIn board (weightsUnder ws m)) i) (limitOn board i)) r
-      → Searched wanted (leastOnUnder board a m i (limitOn board i)) r
+  pub row-searched : {wanted r : ℕ} → Searched wanted (least_of (demand_of (own_under board a i) (term_in board (weights_under ws m)) i) (limit_on board i)) r
+      → Searched wanted (least_on_under board a m i (limit_on board i)) r
   row-searched p = record { unwanted = p.unwanted; answer = λ w. p.answer w ∙ row-answer }
 
 -- ---- on from a cheaper method
 
-cheaper-reloads : (U E : ℕ → Set) (X : Set) (n i j m : ℕ) → m ≤ 4 → reloadsWith U E X n (cheaper m) i j ≤ reloadsWith U E X n m i j
-unfolding reloadsWith
+cheaper-reloads : (U E : ℕ → Set) (X : Set) (n i j m : ℕ) → m ≤ 4 → reloads_with U E X n (cheaper m) i j ≤ reloads_with U E X n m i j
+unfolding reloads_with
 cheaper-reloads U E X n i j zero h = omega arith
 cheaper-reloads U E X n i j (suc zero) h = ucb-union-with U E X n i j
 cheaper-reloads U E X n i j (suc (suc zero)) h = ecb-union-with U E X n i j
@@ -101,96 +101,96 @@ cheaper-reloads U E X n i j (suc (suc (suc (suc zero)))) h = omega arith
 cheaper-reloads U E X n i j (suc (suc (suc (suc (suc m))))) h = absurd (omega arith)
 
 module _ {board : List ℕ} {n : ℕ} (lent : Lent board n) (a : Access) (i : ℕ) (here : i < n) (m : ℕ) (h : m ≤ 4) where
-  no_more : (j : ℕ) → j < i → NoMore (termOnUnder board a (cheaper m) i j) (termOnUnder board a m i j)
+  no_more : (j : ℕ) → j < i → NoMore (term_on_under board a (cheaper m) i j) (term_on_under board a m i j)
   no_more j l = record {
     live = (lent-ranged lent j (omega arith)).period;
     period = omega arith;
     jitter = omega arith;
-    weight = omega (arith, mul-le-mul_left (brtOn board) (cheaper-reloads (ucbOn board) (ecbOn board) (addedBy a j) a.task i j m h));
+    weight = omega (arith, mul-le-mul_left (brt_on board) (cheaper-reloads (ucb_on board) (ecb_on board) (added_by a j) a.task i j m h));
   }
 
-  none_after : (known : ℕ) → toldOf known ≡ leastOnUnder board a (cheaper m) i (limitOn board i) → known ≡ 0 → Unschedulable ≡ leastOnUnder board a m i (limitOn board i)
-  none_after known e z = none_from _ _ i _ _ (on-ranged lent a (cheaper m) i here) no_more (ap toldOf (sym z) ∙ e)
+  none_after : (known : ℕ) → told_of known ≡ least_on_under board a (cheaper m) i (limit_on board i) → known ≡ 0 → Unschedulable ≡ least_on_under board a m i (limit_on board i)
+  none_after known e z = none_from _ _ i _ _ (on-ranged lent a (cheaper m) i here) no_more (ap told_of (sym z) ∙ e)
 
   -- a search that is left out where the cheaper method has no answer finds what is wanted, if that method was wanted, too
-  pub after-known : (wanted-known known wanted given r : ℕ) → (1 ≤ wanted-known → toldOf known ≡ leastOnUnder board a (cheaper m) i (limitOn board i))
+  pub after-known : (wanted-known known wanted given r : ℕ) → (1 ≤ wanted-known → told_of known ≡ least_on_under board a (cheaper m) i (limit_on board i))
       → (wanted-known ≡ 0 → wanted ≡ 0) → (known ≡ 0 → given ≡ 0) × (1 ≤ known → given ≡ wanted)
-      → Searched given (leastOnUnder board a m i (limitOn board i)) r → 1 ≤ wanted → toldOf r ≡ leastOnUnder board a m i (limitOn board i)
+      → Searched given (least_on_under board a m i (limit_on board i)) r → 1 ≤ wanted → told_of r ≡ least_on_under board a m i (limit_on board i)
   after-known zero known wanted given r k f g p w = absurd (omega (arith, f refl))
-  after-known (suc x) zero wanted given r k f g p w = ap toldOf (p.unwanted (g.0 refl)) ∙ none_after 0 (k (omega arith)) refl
+  after-known (suc x) zero wanted given r k f g p w = ap told_of (p.unwanted (g.0 refl)) ∙ none_after 0 (k (omega arith)) refl
   after-known (suc x) (suc y) wanted given r k f g p w = p.answer (omega (arith, g.1 (omega arith)))
 
-  pub started-after : {counts ends : List ℕ} → Started (ownUnder board a i) (termOnUnder board a (cheaper m) i) i counts ends
-      → Started (ownUnder board a i) (termOnUnder board a m i) i counts ends
+  pub started-after : {counts ends : List ℕ} → Started (own_under board a i) (term_on_under board a (cheaper m) i) i counts ends
+      → Started (own_under board a i) (term_on_under board a m i) i counts ends
   started-after = started-harder _ _ i _ _ _ _ (on-ranged lent a (cheaper m) i here) no_more (λ j l. (refl, refl)) (omega arith)
 
 -- ---- on from the task above, and from the row without an access
 
 -- without reloads a task asks for its work
-plain-term : (board : List ℕ) (a : Access) (i j : ℕ) → plainOn board j ≡ termOnUnder board a 0 i j
-unfolding reloadsWith
-plain-term board a i j = ap (termOf (periodIn board j) (jitterIn board j)) (omega arith)
+plain-term : (board : List ℕ) (a : Access) (i j : ℕ) → plain_on board j ≡ term_on_under board a 0 i j
+unfolding reloads_with
+plain-term board a i j = ap (term_of (period_in board j) (jitter_in board j)) (omega arith)
 
 module _ (board : List ℕ) (a : Access) (own i : ℕ) {counts ends : List ℕ} where
-  pub plain-started : Started own (plainOn board) i counts ends → Started own (termOnUnder board a 0 i) i counts ends
+  pub plain-started : Started own (plain_on board) i counts ends → Started own (term_on_under board a 0 i) i counts ends
   plain-started = started-same _ i _ _ _ _ (λ j l. plain-term board a i j)
 
-  pub started-plain : Started own (termOnUnder board a 0 i) i counts ends → Started own (plainOn board) i counts ends
+  pub started-plain : Started own (term_on_under board a 0 i) i counts ends → Started own (plain_on board) i counts ends
   started-plain = started-same _ i _ _ _ _ (λ j l. sym (plain-term board a i j))
 
 -- the list of the tasks' work, which stands on the board
-abbrev worksOn : List ℕ → List ℕ
-worksOn board = take 32 (drop 64 board)
+abbrev works_on : List ℕ → List ℕ
+works_on board = take 32 (drop 64 board)
 
 module _ {board : List ℕ} {n : ℕ} (lent : Lent board n) (i : ℕ) (here : i < n) where
-  plain-ranged : (j : ℕ) → j < i → InRange (plainOn board j)
-  plain-ranged j l = rw (plain-term board (plainAccessOn board i) i j) (on-ranged lent (plainAccessOn board i) 0 i here j l)
+  plain-ranged : (j : ℕ) → j < i → InRange (plain_on board j)
+  plain-ranged j l = rw (plain-term board (plain_access_on board i) i j) (on-ranged lent (plain_access_on board i) 0 i here j l)
 
   -- counts to start from serve for more of the task's own
-  pub plain-longer : (d : ℕ) {counts ends : List ℕ} → ownOn board i ≤ d → Started (ownOn board i) (plainOn board) i counts ends → Started d (plainOn board) i counts ends
+  pub plain-longer : (d : ℕ) {counts ends : List ℕ} → own_on board i ≤ d → Started (own_on board i) (plain_on board) i counts ends → Started d (plain_on board) i counts ends
   plain-longer d h = started-harder _ _ i _ _ _ _ plain-ranged (λ j l. no-more-self _ (plain-ranged j l)) (λ j l. (refl, refl)) h
 
-  works-are : (j : ℕ) → j < i → get_or (worksOn board) j 0 ≡ weightOnUnder board (plainAccessOn board i) 0 i j
-  unfolding reloadsWith
+  works-are : (j : ℕ) → j < i → get_or (works_on board) j 0 ≡ weight_on_under board (plain_access_on board i) 0 i j
+  unfolding reloads_with
   works-are j l =
       let few = lent-few lent in
       get_or-take 32 (drop 64 board) j 0 (omega arith) ∙ get_or-drop 64 board j 0 ∙ omega arith
 
-  pub works-handed : Handed (ownOn board i) board (worksOn board) i (limitOn board i)
+  pub works-handed : Handed (own_on board i) board (works_on board) i (limit_on board i)
   works-handed =
       let few = lent-few lent in
       let long = lent-long lent in
       let q = lent-ranged lent i here in
       handed-for
-      (lent-handed lent (plainAccessOn board i) 0 i here (worksOn board) works-are (simp (length-take, length-drop) (omega arith)) (omega (arith, q.blocked)))
+      (lent-handed lent (plain_access_on board i) 0 i here (works_on board) works-are (simp (length-take, length-drop) (omega arith)) (omega (arith, q.blocked)))
       q.own q.own-most q.limit
 
-  works-term : (j : ℕ) → j < i → termIn board (worksOn board) j ≡ plainOn board j
-  works-term j l = terms-in lent (plainAccessOn board i) 0 i here (worksOn board) works-are j l ∙ sym (plain-term board (plainAccessOn board i) i j)
+  works-term : (j : ℕ) → j < i → term_in board (works_on board) j ≡ plain_on board j
+  works-term j l = terms-in lent (plain_access_on board i) 0 i here (works_on board) works-are j l ∙ sym (plain-term board (plain_access_on board i) i j)
 
   -- so a search without reloads goes by it
-  pub works-started : {counts ends : List ℕ} → Started (ownOn board i) (plainOn board) i counts ends → Started (ownOn board i) (termIn board (worksOn board)) i counts ends
+  pub works-started : {counts ends : List ℕ} → Started (own_on board i) (plain_on board) i counts ends → Started (own_on board i) (term_in board (works_on board)) i counts ends
   works-started = started-same _ i _ _ _ _ (λ j l. sym (works-term j l))
 
-  pub started-works : {counts ends : List ℕ} → Started (ownOn board i) (termIn board (worksOn board)) i counts ends → Started (ownOn board i) (plainOn board) i counts ends
+  pub started-works : {counts ends : List ℕ} → Started (own_on board i) (term_in board (works_on board)) i counts ends → Started (own_on board i) (plain_on board) i counts ends
   started-works = started-same _ i _ _ _ _ works-term
 
   -- one activation of each task above
-  pub plain-ones : Started (ownOn board i) (plainOn board) i (replicate 32 1) (front 0 (firstEnd board) i)
+  pub plain-ones : Started (own_on board i) (plain_on board) i (replicate 32 1) (front 0 (first_end board) i)
   plain-ones = started-works (ones-started works-handed)
 
   -- where the work of the task above makes up for what it is blocked for longer
-  pub carried_on : (counts ends : List ℕ) (k : ℕ) → i ≡ k + 1 → ownOn board k ≤ ownOn board i + workOn board k → Left board i counts ends
-      → Started (ownOn board i) (plainOn board) i (set counts k 1) (set ends k (periodIn board k - jitterIn board k))
+  pub carried_on : (counts ends : List ℕ) (k : ℕ) → i ≡ k + 1 → own_on board k ≤ own_on board i + work_on board k → Left board i counts ends
+      → Started (own_on board i) (plain_on board) i (set counts k 1) (set ends k (period_in board k - jitter_in board k))
   carried_on counts ends k e enough left =
       let few = lent-few lent in
-      subst (λ (n : ℕ). Started (ownOn board i) (plainOn board) n (set counts k 1) (set ends k (periodIn board k - jitterIn board k))) (sym e)
-      (started-next _ _ k (plainOn board) counts ends (omega arith) (lent-ranged lent i here).own enough (λ j l. plain-ranged j (omega arith)) (left.above k e))
+      subst (λ (n : ℕ). Started (own_on board i) (plain_on board) n (set counts k 1) (set ends k (period_in board k - jitter_in board k))) (sym e)
+      (started-next _ _ k (plain_on board) counts ends (omega arith) (lent-ranged lent i here).own enough (λ j l. plain-ranged j (omega arith)) (left.above k e))
 
 -- ---- a row of six answers
 
 pub cells_are : (A : ℕ → Response) (a b c d e : Response) → a ≡ A 0 → b ≡ A 1 → c ≡ A 2 → d ≡ A 3 → e ≡ A 4
-    → (cell a ∷ cell b ∷ cell c ∷ cell d ∷ cell e ∷ cell (sooner d e) ∷ []) ≡ map (λ m. cell (withCombined A m)) methods
+    → (cell a ∷ cell b ∷ cell c ∷ cell d ∷ cell e ∷ cell (sooner d e) ∷ []) ≡ map (λ m. cell (with_combined A m)) methods
 cells_are A a b c d e p q r s t = cc
 
 -- ---- over the accesses that may block, one after the other
@@ -204,20 +204,20 @@ tell-as e p = record {
   ecb-union = p.ecb-union ∙ e 4;
 }
 
-told-zero : (s : ℕ) → toldOf s ≡ Unschedulable → s ≡ 0
+told-zero : (s : ℕ) → told_of s ≡ Unschedulable → s ≡ 0
 told-zero zero e = refl
 told-zero (suc s) e = let w : ◌≡◌ {A = ℕ} 0 1 = cc in absurd (omega arith)
 
 -- what is not wanted does not matter: there is no answer already
-later-wanted : (l n : ℕ) (L A : Response) → toldOf l ≡ L → (1 ≤ l → toldOf n ≡ A) → later (toldOf l) (toldOf n) ≡ later L A
+later-wanted : (l n : ℕ) (L A : Response) → told_of l ≡ L → (1 ≤ l → told_of n ≡ A) → later (told_of l) (told_of n) ≡ later L A
 later-wanted zero n L A e f = rw (← e)
 later-wanted (suc l) n L A e f = ap₂ later e (f (omega arith))
 
 -- all of them are wanted
-abbrev pub allWanted : Singles
-allWanted = record { none = 1; ecb_only = 1; ucb_only = 1; ucb_union = 1; ecb_union = 1 }
+abbrev pub all_wanted : Singles
+all_wanted = record { none = 1; ecb_only = 1; ucb_only = 1; ucb_union = 1; ecb_union = 1 }
 
-pub all-falls : Falls allWanted
+pub all-falls : Falls all_wanted
 all-falls = record {
   ucb-union = λ z. absurd (omega arith);
   ecb-only = λ z. absurd (omega arith);
@@ -225,7 +225,7 @@ all-falls = record {
   ucb-only = λ z. absurd (omega arith);
 }
 
-pub tell-all : {board : List ℕ} {a : Access} {i : ℕ} {s : Singles} → TellWanted board a i allWanted s → TellUnder board a i s
+pub tell-all : {board : List ℕ} {a : Access} {i : ℕ} {s : Singles} → TellWanted board a i all_wanted s → TellUnder board a i s
 tell-all p = record {
   none = p.none (omega arith);
   ecb-only = p.ecb-only (omega arith);
@@ -235,9 +235,9 @@ tell-all p = record {
 }
 
 -- where one of two has no answer, the later one has none, and only there
-no-later : (a b r c d s : ℕ) → toldOf r ≡ later (toldOf a) (toldOf b) → toldOf s ≡ later (toldOf c) (toldOf d) → (a ≡ 0 → c ≡ 0) → (b ≡ 0 → d ≡ 0) → r ≡ 0 → s ≡ 0
+no-later : (a b r c d s : ℕ) → told_of r ≡ later (told_of a) (told_of b) → told_of s ≡ later (told_of c) (told_of d) → (a ≡ 0 → c ≡ 0) → (b ≡ 0 → d ≡ 0) → r ≡ 0 → s ≡ 0
 no-later zero b r c d s e f p q z = told-zero s (f ∙ rw (p refl))
-no-later (suc a) zero r c d s e f p q z = told-zero s (f ∙ rw (q refl) (last (toldOf c)))
+no-later (suc a) zero r c d s e f p q z = told-zero s (f ∙ rw (q refl) (last (told_of c)))
   where
     last : (x : Response) → later x Unschedulable ≡ Unschedulable
     last (Within t) = refl
@@ -253,14 +253,14 @@ later-falls {s} {t} {r} p q l = record {
 }
 
 module _ (board : List ℕ) (i : ℕ) (blockers : List Access) (long : length blockers ≡ 32) where
-  pub tell-first : {s : Singles} → TellUnder board (get_or blockers 0 emptyAccess) i s → TellOver board (take 1 blockers) i s
-  tell-first = tell-as (λ m. latest-first board m i (limitOn board i) blockers long)
+  pub tell-first : {s : Singles} → TellUnder board (get_or blockers 0 empty_access) i s → TellOver board (take 1 blockers) i s
+  tell-first = tell-as (λ m. latest-first board m i (limit_on board i) blockers long)
 
-  pub tell-next : {s t r : Singles} (n : ℕ) → n < 32 → TellOver board (take n blockers) i s → TellWanted board (get_or blockers n emptyAccess) i s t → LaterEach s t r
+  pub tell-next : {s t r : Singles} (n : ℕ) → n < 32 → TellOver board (take n blockers) i s → TellWanted board (get_or blockers n empty_access) i s t → LaterEach s t r
       → TellOver board (take (n + 1) blockers) i r
   tell-next {s} {t} n h p q l =
-      tell-as {A = λ m. later (latestOn board (take n blockers) m i (limitOn board i)) (leastOnUnder board (get_or blockers n emptyAccess) m i (limitOn board i))}
-      (λ m. latest-step board m i (limitOn board i) blockers long n h)
+      tell-as {A = λ m. later (latest_on board (take n blockers) m i (limit_on board i)) (least_on_under board (get_or blockers n empty_access) m i (limit_on board i))}
+      (λ m. latest-step board m i (limit_on board i) blockers long n h)
       (record {
         none = l.none ∙ later-wanted s.none t.none _ _ p.none q.none;
         ecb-only = l.ecb-only ∙ later-wanted s.ecb_only t.ecb_only _ _ p.ecb-only q.ecb-only;
@@ -271,84 +271,84 @@ module _ (board : List ℕ) (i : ℕ) (blockers : List Access) (long : length bl
 
 -- where there is one alone
 pub tell-only : (board : List ℕ) (i : ℕ) (a : Access) {s : Singles} → TellUnder board a i s → TellOver board (a ∷ []) i s
-unfolding latestOn
+unfolding latest_on
 tell-only board i a = tell-as (λ m. sym (latest-one _))
 
 -- the row that they tell
-pub row_told : (board : List ℕ) (accesses : List Access) (i : ℕ) (s : Singles) (r : Row) → r.cells ≡ rowTold s → TellOver board (blockersOn board accesses i) i s
-    → r ≡ rowOn board accesses i
-row_told board accesses i s r e p =
+pub row_is_told : (board : List ℕ) (accesses : List Access) (i : ℕ) (s : Singles) (r : Row) → r.cells ≡ row_told s → TellOver board (blockers_on board accesses i) i s
+    → r ≡ row_on board accesses i
+row_is_told board accesses i s r e p =
     ap (λ (cs : List Cell). record { cells = cs })
-    (e ∙ cells_are (λ (m : ℕ). latestOn board (blockersOn board accesses i) m i (limitOn board i)) _ _ _ _ _ p.none p.ecb-only p.ucb-only p.ucb-union p.ecb-union)
+    (e ∙ cells_are (λ (m : ℕ). latest_on board (blockers_on board accesses i) m i (limit_on board i)) _ _ _ _ _ p.none p.ecb-only p.ucb-only p.ucb-union p.ecb-union)
 
 -- ---- B as an access
 
 module _ {board : List ℕ} {n : ℕ} (lent : Lent board n) (i : ℕ) (here : i < n) where
-  pub plain-own : workOn board i + (ownOn board i - workOn board i) ≡ ownOn board i
+  pub plain-own : work_on board i + (own_on board i - work_on board i) ≡ own_on board i
   plain-own = omega (arith, (lent-ranged lent i here).work-own)
 
-  pub plain-blocks : BlocksOn board i (plainAccessOn board i)
+  pub plain-blocks : BlocksOn board i (plain_access_on board i)
   plain-blocks =
       let q = lent-ranged lent i here in
       record { blocks = record { ceiling = omega arith; lasts = omega (arith, q.blocked) }; no_less = omega (arith, q.work-own) }
 
   -- the weights of a row are those with it
-  pub plain-weighed : {ws : List ℕ} → Weighed board i ws → WeighedUnder board (plainAccessOn board i) i ws
+  pub plain-weighed : {ws : List ℕ} → Weighed board i ws → WeighedUnder board (plain_access_on board i) i ws
   plain-weighed p = record {
     long = p.long;
-    each = λ m j h l. p.each m j h l ∙ sym (weight-past board (plainAccessOn board i) m i j zero-le);
+    each = λ m j h l. p.each m j h l ∙ sym (weight-past board (plain_access_on board i) m i j zero-le);
   }
 
   -- what may block the task
   module _ {count : ℕ} {accesses : List Access} (p : LentAccesses board n count accesses) where
-    accesses-block : (k : ℕ) → k < length (take count accesses) → mayBlock i (get_or (take count accesses) k emptyAccess) ≡ true
-        → BlocksOn board i (get_or (take count accesses) k emptyAccess)
+    accesses-block : (k : ℕ) → k < length (take count accesses) → may_block i (get_or (take count accesses) k empty_access) ≡ true
+        → BlocksOn board i (get_or (take count accesses) k empty_access)
     accesses-block k h e =
-        let a = get_or (take count accesses) k emptyAccess in
+        let a = get_or (take count accesses) k empty_access in
         let l : k < count = omega (arith, length-take count accesses) in
         record {
           blocks = record { ceiling = leb-true a.ceiling i (and_right (ltb i a.task) (leb a.ceiling i) e); lasts = p.lasts k l };
           no_less = omega (arith, p.unblocked (omega arith) i here);
         }
 
-    pub all-block-on : (b : Blockers) → Listed (blockersOn board (take count accesses) i) b → AllBlockOn board i b
+    pub all-block-on : (b : Blockers) → Listed (blockers_on board (take count accesses) i) b → AllBlockOn board i b
     all-block-on b l = record {
       some = l.some;
       few = l.few;
       long = l.long;
-      each = listed-each (BlocksOn board i) (blockersOn board (take count accesses) i) b
-          (every-or (BlocksOn board i) (plainAccessOn board i) (blocking i (take count accesses)) plain-blocks
+      each = listed-each (BlocksOn board i) (blockers_on board (take count accesses) i) b
+          (every-or (BlocksOn board i) (plain_access_on board i) (blocking i (take count accesses)) plain-blocks
           (every-blocking (BlocksOn board i) i (take count accesses)
-          (every_of (λ a. mayBlock i a ≡ true → BlocksOn board i a) (take count accesses) emptyAccess accesses-block)))
+          (every_of (λ a. may_block i a ≡ true → BlocksOn board i a) (take count accesses) empty_access accesses-block)))
           l;
     }
 
     -- and where the first of these may not, it is B alone
-    pub answered : (b : Blockers) → Listed (blockersOn board (take count accesses) i) b → Answered board i b
+    pub answered : (b : Blockers) → Listed (blockers_on board (take count accesses) i) b → Answered board i b
     answered b l = record { all = all-block-on b l; plain = λ e. l.held ∙ go (blocking i (take count accesses)) refl (sym (first-is l.some) ∙ e) }
       where
-        first-is : 1 ≤ b.count → mayBlock i (get_or b.accesses 0 emptyAccess) ≡ mayBlock i (get_or (blockersOn board (take count accesses) i) 0 emptyAccess)
-        first-is some = ap (mayBlock i) (sym (get_or-take b.count b.accesses 0 emptyAccess some) ∙ ap (λ (x : List Access). get_or x 0 emptyAccess) l.held)
+        first-is : 1 ≤ b.count → may_block i (get_or b.accesses 0 empty_access) ≡ may_block i (get_or (blockers_on board (take count accesses) i) 0 empty_access)
+        first-is some = ap (may_block i) (sym (get_or-take b.count b.accesses 0 empty_access some) ∙ ap (λ (x : List Access). get_or x 0 empty_access) l.held)
 
-        always : (x : List Access) → Every (λ c. mayBlock i c ≡ true → mayBlock i c ≡ true) x
+        always : (x : List Access) → Every (λ c. may_block i c ≡ true → may_block i c ≡ true) x
         always [] = tt
         always (a ∷ x) = ((λ h. h), always x)
 
-        go : (x : List Access) → blocking i (take count accesses) ≡ x → mayBlock i (get_or (or_else (plainAccessOn board i) x) 0 emptyAccess) ≡ false
-            → or_else (plainAccessOn board i) x ≡ plainAccessOn board i ∷ []
+        go : (x : List Access) → blocking i (take count accesses) ≡ x → may_block i (get_or (or_else (plain_access_on board i) x) 0 empty_access) ≡ false
+            → or_else (plain_access_on board i) x ≡ plain_access_on board i ∷ []
         go [] e f = refl
         go (a ∷ x) e f =
-            let blocks : Every (λ c. mayBlock i c ≡ true) (a ∷ x) = subst (Every (λ c. mayBlock i c ≡ true)) e (every-blocking (λ c. mayBlock i c ≡ true) i (take count accesses) (always (take count accesses))) in
+            let blocks : Every (λ c. may_block i c ≡ true) (a ∷ x) = subst (Every (λ c. may_block i c ≡ true)) e (every-blocking (λ c. may_block i c ≡ true) i (take count accesses) (always (take count accesses))) in
             let z : true ≡ false = sym blocks.0 ∙ f in
             absurd (true≢false z)
 
 -- such a first one is B
-pub first_plain : {board : List ℕ} {i : ℕ} {b : Blockers} → Answered board i b → mayBlock i (get_or b.accesses 0 emptyAccess) ≡ false
-    → get_or b.accesses 0 emptyAccess ≡ plainAccessOn board i
-first_plain {b = b} p e = sym (get_or-take b.count b.accesses 0 emptyAccess p.all.some) ∙ ap (λ (x : List Access). get_or x 0 emptyAccess) (p.plain e)
+pub first_plain : {board : List ℕ} {i : ℕ} {b : Blockers} → Answered board i b → may_block i (get_or b.accesses 0 empty_access) ≡ false
+    → get_or b.accesses 0 empty_access ≡ plain_access_on board i
+first_plain {b = b} p e = sym (get_or-take b.count b.accesses 0 empty_access p.all.some) ∙ ap (λ (x : List Access). get_or x 0 empty_access) (p.plain e)
 
 -- where there are no accesses it is B alone
-pub none-listed : (board : List ℕ) (accesses : List Access) (count i : ℕ) → count ≡ 0 → blockersOn board (take count accesses) i ≡ plainAccessOn board i ∷ []
+pub none-listed : (board : List ℕ) (accesses : List Access) (count i : ℕ) → count ≡ 0 → blockers_on board (take count accesses) i ≡ plain_access_on board i ∷ []
 unfolding blocking
 none-listed board accesses count i e = rw e
 
@@ -357,28 +357,28 @@ none-listed board accesses count i e = rw e
 module _ (table : Table) (board : List ℕ) (is : BoardOf table table.count board) where
   -- the accesses of a table are lent beside its board
   pub lent-accesses : AcceptedTable table → LentAccesses board table.count table.access_count table.accesses
-  unfolding accessAt
+  unfolding access_at
   lent-accesses p = record {
     few = p.few-accesses;
     lasts = λ k h. (p.accesses k h).lasts.1;
     unblocked = λ some k h. let t = is.tasks k h in omega (arith, t.own, t.work, p.unblocked some k h);
   }
 
-  plain-is : (i : ℕ) → i < table.count → plainAccessOn board i ≡ plainAccess (at table i)
+  plain-is : (i : ℕ) → i < table.count → plain_access_on board i ≡ plain_access (at table i)
   plain-is i h =
       let t = is.tasks i h in
-      let e : ownOn board i - workOn board i ≡ (at table i).blocking.0 = omega (arith, t.own, t.work) in
+      let e : own_on board i - work_on board i ≡ (at table i).blocking.0 = omega (arith, t.own, t.work) in
       ap (λ (b : ℕ). record { task = 0; ceiling = 0; lasts = record { 0 = b }; ucb = no_sets }) e
 
-  pub rows_same : front no_row (rowOn board (accessesOf table)) table.count ≡ rows_of table
-  unfolding responseOf
+  pub rows_same : front no_row (row_on board (accesses_of table)) table.count ≡ rows_of table
+  unfolding response_of
   rows_same =
-      front_same no_row (rowOn board (accessesOf table)) (row_of table) table.count
+      front_same no_row (row_on board (accesses_of table)) (row_of table) table.count
       (λ i l. ap (λ (cs : List Cell). record { cells = cs })
-      (cells_same (λ m. latestOn board (blockersOn board (accessesOf table) i) m i (limitOn board i)) (λ m. answer_of table m i)
+      (cells_same (λ m. latest_on board (blockers_on board (accesses_of table) i) m i (limit_on board i)) (λ m. answer_of table m i)
       (λ m. rw (plain-is i l) (answer-is table table.count board is i l m))))
     where
-      cells_same : (A B : ℕ → Response) → ((m : ℕ) → A m ≡ B m) → map (λ m. cell (withCombined A m)) methods ≡ map (λ m. cell (withCombined B m)) methods
+      cells_same : (A B : ℕ → Response) → ((m : ℕ) → A m ≡ B m) → map (λ m. cell (with_combined A m)) methods ≡ map (λ m. cell (with_combined B m)) methods
       cells_same A B p =
           let a = p 0 in
           let b = p 1 in

@@ -1,15 +1,15 @@
 // The responses of all tasks of a table under all methods. What one task's search finds out is carried on to the next.
 ghost use Rattle.std.specs.Prelude.{◌≡◌, ◌+◌, ◌≤◌, take};
 ghost use Rattle.demand.specs.Positions.{front};
-ghost use Rattle.demand.specs.Demand.{demandOf};
-ghost use Rattle.demand.specs.Terms.{termIn, Handed};
-ghost use Rattle.demand.specs.Least.{leastOf};
+ghost use Rattle.demand.specs.Demand.{demand_of};
+ghost use Rattle.demand.specs.Terms.{term_in, Handed};
+ghost use Rattle.demand.specs.Least.{least_of};
 ghost use Rattle.response.specs.Counts.{Started};
 ghost use Rattle.table.specs.Accepted.{AcceptedTable};
-ghost use Rattle.board.specs.Board.{workOn, ownOn, limitOn, Lent};
+ghost use Rattle.board.specs.Board.{work_on, own_on, limit_on, Lent};
 ghost use Rattle.carried.specs.Carried.{Ledger, Weighed, WeighedUnder};
 ghost use Rattle.analysis.specs.Analysis.{no_row, rows_of, Blocks};
-ghost use Rattle.rows.specs.Rows.{plainAccessOn, rowOn, Searched, Falls, TellUnder, TellWanted, TellOver, LaterEach, rowTold, plainOn, Left, BlocksOn, AllBlockOn, Answered, LentAccesses};
+ghost use Rattle.rows.specs.Rows.{plain_access_on, row_on, Searched, Falls, TellUnder, TellWanted, TellOver, LaterEach, row_told, plain_on, Left, BlocksOn, AllBlockOn, Answered, LentAccesses};
 
 use accesses::{Access, Blockers};
 use board::{LIMITS, OWNS, WORKS};
@@ -53,9 +53,9 @@ fn search(
     counts: &mut [u64; 32],
     ends: &mut [u64; 32],
 ) -> u64
-    requires { Lent board.now (i + 1) × Handed own.0 board.now weights.now i (limitOn board.now i) × Started own.0 (termIn board.now weights.now) i counts.old ends.old }
-    ensures searched { Searched wanted (leastOf (demandOf own.0 (termIn board.now weights.now) i) (limitOn board.now i)) result }
-    ensures started { Started own.0 (termIn board.now weights.now) i counts.new ends.new }
+    requires { Lent board.now (i + 1) × Handed own.0 board.now weights.now i (limit_on board.now i) × Started own.0 (term_in board.now weights.now) i counts.old ends.old }
+    ensures searched { Searched wanted (least_of (demand_of own.0 (term_in board.now weights.now) i) (limit_on board.now i)) result }
+    ensures started { Started own.0 (term_in board.now weights.now) i counts.new ends.new }
 {
     if wanted == 0 {
         return 0;
@@ -76,9 +76,9 @@ fn by_row(
     counts: &mut [u64; 32],
     ends: &mut [u64; 32],
 ) -> Singles
-    requires { Lent board.now (i + 1) × Blocks i access × WeighedUnder board.now access i weights.now × Falls wanted × Started (workOn board.now i + access.lasts.0) (plainOn board.now) i counts.old ends.old }
+    requires { Lent board.now (i + 1) × Blocks i access × WeighedUnder board.now access i weights.now × Falls wanted × Started (work_on board.now i + access.lasts.0) (plain_on board.now) i counts.old ends.old }
     ensures tell_wanted { TellWanted board.now access i wanted result }
-    ensures started { Started (workOn board.now i + access.lasts.0) (plainOn board.now) i counts.new ends.new }
+    ensures started { Started (work_on board.now i + access.lasts.0) (plain_on board.now) i counts.new ends.new }
 {
     let own = Ticks(board[WORKS + i] + access.lasts.0);
     let none = search(own, board, &weights[0..32], i, wanted.none, counts, ends);
@@ -144,9 +144,9 @@ fn all_by_row(
     counts: &mut [u64; 32],
     ends: &mut [u64; 32],
 ) -> Singles
-    requires { Lent board.now (i + 1) × Blocks i access × WeighedUnder board.now access i weights.now × Started (workOn board.now i + access.lasts.0) (plainOn board.now) i counts.old ends.old }
+    requires { Lent board.now (i + 1) × Blocks i access × WeighedUnder board.now access i weights.now × Started (work_on board.now i + access.lasts.0) (plain_on board.now) i counts.old ends.old }
     ensures tell_under { TellUnder board.now access i result × Falls result }
-    ensures started { Started (workOn board.now i + access.lasts.0) (plainOn board.now) i counts.new ends.new }
+    ensures started { Started (work_on board.now i + access.lasts.0) (plain_on board.now) i counts.new ends.new }
 {
     let wanted = Singles {
         none: 1,
@@ -169,7 +169,7 @@ fn under(
     wanted: Singles,
     start: Start,
 ) -> Singles
-    requires { Lent board.now (i + 1) × BlocksOn board.now i access × Ledger board.now (i + 1) ledger.now × Weighed board.now i weights.now × Falls wanted × Started (ownOn board.now i) (plainOn board.now) i start.counts start.ends }
+    requires { Lent board.now (i + 1) × BlocksOn board.now i access × Ledger board.now (i + 1) ledger.now × Weighed board.now i weights.now × Falls wanted × Started (own_on board.now i) (plain_on board.now) i start.counts start.ends }
     ensures { TellWanted board.now access i wanted result }
 {
     let mut joined = *weights;
@@ -209,7 +209,7 @@ fn latest_over(
     blockers: Blockers,
     start: Start,
 ) -> Singles
-    requires { Lent board.now (i + 1) × AllBlockOn board.now i blockers × Ledger board.now (i + 1) ledger.now × Weighed board.now i weights.now × Started (ownOn board.now i) (plainOn board.now) i start.counts start.ends }
+    requires { Lent board.now (i + 1) × AllBlockOn board.now i blockers × Ledger board.now (i + 1) ledger.now × Weighed board.now i weights.now × Started (own_on board.now i) (plain_on board.now) i start.counts start.ends }
     ensures { TellOver board.now (take blockers.count blockers.accesses) i result }
 {
     let first = blockers.accesses[0];
@@ -242,9 +242,9 @@ fn blocked(
     counts: &mut [u64; 32],
     ends: &mut [u64; 32],
 ) -> Singles
-    requires { Lent board.now (i + 1) × Answered board.now i blockers × Ledger board.now (i + 1) ledger.now × Weighed board.now i weights.now × Started (ownOn board.now i) (plainOn board.now) i counts.old ends.old }
+    requires { Lent board.now (i + 1) × Answered board.now i blockers × Ledger board.now (i + 1) ledger.now × Weighed board.now i weights.now × Started (own_on board.now i) (plain_on board.now) i counts.old ends.old }
     ensures tell_over { TellOver board.now (take blockers.count blockers.accesses) i result }
-    ensures started { Started (ownOn board.now i) (plainOn board.now) i counts.new ends.new }
+    ensures started { Started (own_on board.now i) (plain_on board.now) i counts.new ends.new }
 {
     let first = blockers.accesses[0];
     if first.may_block(i) {
@@ -261,7 +261,7 @@ fn blocked(
 
 // The row that the ticks tell.
 fn row_of(ticks: Singles) -> Row
-    ensures { result.cells ≡ rowTold ticks }
+    ensures { result.cells ≡ row_told ticks }
 {
     let ucb_union = demand::told(ticks.ucb_union);
     let ecb_union = demand::told(ticks.ecb_union);
@@ -291,7 +291,7 @@ fn row_of(ticks: Singles) -> Row
 // B of the task at i as an access.
 fn plain_access(board: &[u64], i: usize) -> Access
     requires { Lent board.now (i + 1) }
-    ensures { result ≡ plainAccessOn board.now i }
+    ensures { result ≡ plain_access_on board.now i }
 {
     Access {
         task: 0,
@@ -305,7 +305,7 @@ fn plain_access(board: &[u64], i: usize) -> Access
 // task above in its demand, so it is answered no sooner, unless that task is blocked for longer than this makes up for.
 fn carry_on(board: &[u64], i: usize, counts: &mut [u64; 32], ends: &mut [u64; 32])
     requires { Lent board.now (i + 1) × Left board.now i counts.old ends.old }
-    ensures { Started (ownOn board.now i) (plainOn board.now) i counts.new ends.new }
+    ensures { Started (own_on board.now i) (plain_on board.now) i counts.new ends.new }
 {
     if i == 0 {
         return;
@@ -323,7 +323,7 @@ fn carry_on(board: &[u64], i: usize, counts: &mut [u64; 32], ends: &mut [u64; 32
 // The answers for the first `count` tasks of a board, with the first `listed` of these accesses. What pre-emption costs is carried down the rows.
 fn rows(board: &[u64], count: usize, accesses: [Access; 32], listed: usize) -> [Row; 32]
     requires { Lent board.now count × LentAccesses board.now count listed accesses }
-    ensures { result ≡ front no_row (rowOn board.now (take listed accesses)) count }
+    ensures { result ≡ front no_row (row_on board.now (take listed accesses)) count }
 {
     let mut ledger = [0u64; carried::LEDGER];
     let mut weights = [0u64; carried::WEIGHTS];

@@ -13,64 +13,64 @@ use Rattle.units.specs.declared.Ticks.{Ticks}
 use Rattle.tasks.specs.declared.Task.{Task}
 use Rattle.tasks.specs.Tasks.{blank}
 use Rattle.table.specs.declared.Table.{Table}
-use Rattle.table.specs.Tasks.{tasksOf, at, accessAt}
+use Rattle.table.specs.Tasks.{tasks_of, at, access_at}
 use Rattle.table.proofs.Lists.{take-map}
 use Rattle.readable.proofs.Places.{map_snoc}
 use Rattle.costs.specs.Harder.{HarderTask, Harder}
-use Rattle.scaling.specs.Scaling.{scaledWork, scaledTask, scaledBy}
+use Rattle.scaling.specs.Scaling.{scaled_work, scaled_task, scaled_by}
 
 -- scaled by k, the tasks are the scaled tasks
-pub scaled-tasks : (k : ℕ) (table : Table) → tasksOf (scaledBy k table) ≡ map (scaledTask k) (tasksOf table)
-unfolding scaledBy
-scaled-tasks k table = take-map (scaledTask k) table.count table.tasks
+pub scaled-tasks : (k : ℕ) (table : Table) → tasks_of (scaled_by k table) ≡ map (scaled_task k) (tasks_of table)
+unfolding scaled_by
+scaled-tasks k table = take-map (scaled_task k) table.count table.tasks
 
 -- with a C of 0 a task stays as it is
-pub unworked : (k : ℕ) (t : Task) → t.work.0 ≡ 0 → scaledTask k t ≡ t
+pub unworked : (k : ℕ) (t : Task) → t.work.0 ≡ 0 → scaled_task k t ≡ t
 unworked k t e =
-    let zero : scaledWork k t.work.0 ≡ t.work.0 = rw (e, zero-mul k) refl in
+    let zero : scaled_work k t.work.0 ≡ t.work.0 = rw (e, zero-mul k) refl in
     λ i. record { name = t.name; work = record { 0 = zero i }; period = t.period; deadline = t.deadline; jitter = t.jitter; blocking = t.blocking; ucb = t.ucb; ecb = t.ecb }
 
 -- the task at a place, be it past the last one
-pub scaled-place : (k : ℕ) (ts : List Task) (j : ℕ) → get_or (map (scaledTask k) ts) j blank ≡ scaledTask k (get_or ts j blank)
+pub scaled-place : (k : ℕ) (ts : List Task) (j : ℕ) → get_or (map (scaled_task k) ts) j blank ≡ scaled_task k (get_or ts j blank)
 scaled-place k ts j =
-    ap (get_or (map (scaledTask k) ts) j) (sym (unworked k blank refl)) ∙ get_or-map (scaledTask k) ts j blank
+    ap (get_or (map (scaled_task k) ts) j) (sym (unworked k blank refl)) ∙ get_or-map (scaled_task k) ts j blank
 
-pub scaled_at : (k : ℕ) (table : Table) (j : ℕ) → at (scaledBy k table) j ≡ scaledTask k (at table j)
+pub scaled_at : (k : ℕ) (table : Table) (j : ℕ) → at (scaled_by k table) j ≡ scaled_task k (at table j)
 unfolding at
-scaled_at k table j = ap (λ (l : List Task). get_or l j blank) (scaled-tasks k table) ∙ scaled-place k (tasksOf table) j
+scaled_at k table j = ap (λ (l : List Task). get_or l j blank) (scaled-tasks k table) ∙ scaled-place k (tasks_of table) j
 
 -- the accesses are as they were
-pub scaled-access : (k : ℕ) (table : Table) (n : ℕ) → accessAt (scaledBy k table) n ≡ accessAt table n
-unfolding scaledBy accessAt
+pub scaled-access : (k : ℕ) (table : Table) (n : ℕ) → access_at (scaled_by k table) n ≡ access_at table n
+unfolding scaled_by access_at
 scaled-access k table n = refl
 
 -- ---- the tasks while they are scaled, one after the other
 
 -- the first j of them are scaled
-abbrev pub scaledFirst : ℕ → ℕ → List Task → List Task
-scaledFirst k j ts = map (scaledTask k) (take j ts) ++ drop j ts
+abbrev pub scaled_first : ℕ → ℕ → List Task → List Task
+scaled_first k j ts = map (scaled_task k) (take j ts) ++ drop j ts
 
 module _ (k j : ℕ) (ts : List Task) (h : j < length ts) where
-  first-long : length (map (scaledTask k) (take j ts)) ≡ j
-  first-long = length-map (take j ts) (scaledTask k) ∙ length-take-le j ts (omega arith)
+  first-long : length (map (scaled_task k) (take j ts)) ≡ j
+  first-long = length-map (take j ts) (scaled_task k) ∙ length-take-le j ts (omega arith)
 
   -- the next is as it was
-  first-at : get_or (scaledFirst k j ts) j blank ≡ get_or ts j blank
-  first-at = rw (drop-cons ts j blank h) (get_or_at (map (scaledTask k) (take j ts)) (get_or ts j blank) (drop (suc j) ts) blank j first-long)
+  first-at : get_or (scaled_first k j ts) j blank ≡ get_or ts j blank
+  first-at = rw (drop-cons ts j blank h) (get_or_at (map (scaled_task k) (take j ts)) (get_or ts j blank) (drop (suc j) ts) blank j first-long)
 
   -- and once it is scaled too, they are one more
-  first_next : set (scaledFirst k j ts) j (scaledTask k (get_or ts j blank)) ≡ scaledFirst k (j + 1) ts
+  first_next : set (scaled_first k j ts) j (scaled_task k (get_or ts j blank)) ≡ scaled_first k (j + 1) ts
   first_next =
       rw (drop-cons ts j blank h, add-one j, take-suc ts j blank h, map_snoc, append_snoc)
-      (set_at (map (scaledTask k) (take j ts)) (get_or ts j blank) (drop (suc j) ts) (scaledTask k (get_or ts j blank)) j first-long)
+      (set_at (map (scaled_task k) (take j ts)) (get_or ts j blank) (drop (suc j) ts) (scaled_task k (get_or ts j blank)) j first-long)
 
 -- and the first of as many as there are, or more, are all of them
-pub first-all : (k j : ℕ) (ts : List Task) → length ts ≤ j → scaledFirst k j ts ≡ map (scaledTask k) ts
-first-all k j ts h = rw (take_all j ts h, drop_of_length-le ts {i = j} h) (append-nil (map (scaledTask k) ts))
+pub first-all : (k j : ℕ) (ts : List Task) → length ts ≤ j → scaled_first k j ts ≡ map (scaled_task k) ts
+first-all k j ts h = rw (take_all j ts h, drop_of_length-le ts {i = j} h) (append-nil (map (scaled_task k) ts))
 
 -- the table with other tasks, and the task with another C
-abbrev pub withTasks : Table → List Task → Table
-withTasks table ts = record {
+abbrev pub with_tasks : Table → List Task → Table
+with_tasks table ts = record {
   sets = table.sets;
   brt = table.brt;
   count = table.count;
@@ -92,26 +92,26 @@ with_c t work = record {
 }
 
 -- the next task of a table of which the first j are scaled: as it was, and then scaled too
-module _ (k j : ℕ) (table now : Table) (h : j < length table.tasks) (e : now ≡ withTasks table (scaledFirst k j table.tasks)) where
+module _ (k j : ℕ) (table now : Table) (h : j < length table.tasks) (e : now ≡ with_tasks table (scaled_first k j table.tasks)) where
   pub next-is : get_or now.tasks j blank ≡ get_or table.tasks j blank
   next-is = ap (λ (T : Table). get_or T.tasks j blank) e ∙ first-at k j table.tasks h
 
-  pub next-scaled : (work : Ticks) → work.0 ≡ scaledWork k (get_or now.tasks j blank).work.0
-      → withTasks now (set now.tasks j (with_c (get_or now.tasks j blank) work)) ≡ withTasks table (scaledFirst k (j + 1) table.tasks)
+  pub next-scaled : (work : Ticks) → work.0 ≡ scaled_work k (get_or now.tasks j blank).work.0
+      → with_tasks now (set now.tasks j (with_c (get_or now.tasks j blank) work)) ≡ with_tasks table (scaled_first k (j + 1) table.tasks)
   next-scaled work w =
-      let is : with_c (get_or now.tasks j blank) work ≡ scaledTask k (get_or table.tasks j blank) =
-      (λ i. with_c (get_or now.tasks j blank) (record { 0 = w i })) ∙ ap (scaledTask k) next-is in
-      ap (λ (T : Table). withTasks T (set T.tasks j (with_c (get_or now.tasks j blank) work))) e
-      ∙ ap (λ (t : Task). withTasks table (set (scaledFirst k j table.tasks) j t)) is
-      ∙ ap (withTasks table) (first_next k j table.tasks h)
+      let is : with_c (get_or now.tasks j blank) work ≡ scaled_task k (get_or table.tasks j blank) =
+      (λ i. with_c (get_or now.tasks j blank) (record { 0 = w i })) ∙ ap (scaled_task k) next-is in
+      ap (λ (T : Table). with_tasks T (set T.tasks j (with_c (get_or now.tasks j blank) work))) e
+      ∙ ap (λ (t : Task). with_tasks table (set (scaled_first k j table.tasks) j t)) is
+      ∙ ap (with_tasks table) (first_next k j table.tasks h)
 
 -- ---- scaled by more
 
-pub work-mono : (c k l : ℕ) → k ≤ l → scaledWork k c ≤ scaledWork l c
+pub work-mono : (c k l : ℕ) → k ≤ l → scaled_work k c ≤ scaled_work l c
 work-mono c k l h =
-    (ceil-le (c * k) (scaledWork l c) 1000 (omega arith)).1 (omega (arith, ceil-mul (c * l) 1000 (omega arith), mul-le-mul_left c h))
+    (ceil-le (c * k) (scaled_work l c) 1000 (omega arith)).1 (omega (arith, ceil-mul (c * l) 1000 (omega arith), mul-le-mul_left c h))
 
-harder-task : (t : Task) (k l : ℕ) → k ≤ l → HarderTask (scaledTask k t) (scaledTask l t)
+harder-task : (t : Task) (k l : ℕ) → k ≤ l → HarderTask (scaled_task k t) (scaled_task l t)
 harder-task t k l h = record {
   work = work-mono t.work.0 k l h;
   period = omega arith;
@@ -122,8 +122,8 @@ harder-task t k l h = record {
   ecb = λ s m. m;
 }
 
-pub harder-scaled : (table : Table) (k l : ℕ) → k ≤ l → Harder (scaledBy k table) (scaledBy l table)
-unfolding scaledBy
+pub harder-scaled : (table : Table) (k l : ℕ) → k ≤ l → Harder (scaled_by k table) (scaled_by l table)
+unfolding scaled_by
 harder-scaled table k l h = record {
   count = refl;
   sets = refl;
@@ -136,18 +136,18 @@ harder-scaled table k l h = record {
 -- ---- the longest C, 250,000,000 ticks
 
 -- a C is scaled to no more than that by as many thousandths as 250,000,000,000 has of it
-pub work-fits : (c k : ℕ) → 1 ≤ c → k ≤ 250000000000 / c → scaledWork k c ≤ 250000000
+pub work-fits : (c k : ℕ) → 1 ≤ c → k ≤ 250000000000 / c → scaled_work k c ≤ 250000000
 work-fits c k some h =
     (ceil-le (c * k) 250000000 1000 (omega arith)).1 (rw (mul_comm c k) ((le-div_iff_mul-le {k = c} {x = k} {y = 250000000000} some).0 h))
 
 -- and to more by one more
-pub work-past : (c k : ℕ) → 1 ≤ c → 250000000000 / c < k → 250000000 < scaledWork k c
+pub work-past : (c k : ℕ) → 1 ≤ c → 250000000000 / c < k → 250000000 < scaled_work k c
 work-past c k some h = lt_of_not-le (λ p.
     let fits : k ≤ 250000000000 / c = (le-div_iff_mul-le {k = c} {x = k} {y = 250000000000} some).1 (rw (mul_comm c k) at ((ceil-le (c * k) 250000000 1000 (omega arith)).0 p)) in
     omega arith)
 
 -- a C of some ticks keeps some
-pub work-some : (c k : ℕ) → 1 ≤ c → 1 ≤ k → 1 ≤ scaledWork k c
+pub work-some : (c k : ℕ) → 1 ≤ c → 1 ≤ k → 1 ≤ scaled_work k c
 work-some c k some by = lt_of_not-le (λ p.
     let none = (ceil-le (c * k) 0 1000 (omega arith)).0 p in
     omega (arith, mul-le-mul some by))

@@ -8,14 +8,14 @@ use Rattle.table.specs.declared.Table.{Table}
 use Rattle.table.specs.Tasks.{at}
 
 -- ⌈C × k / 1000⌉
-abbrev pub scaledWork : ℕ → ℕ → ℕ
-scaledWork k c = ceil (c * k) 1000
+abbrev pub scaled_work : ℕ → ℕ → ℕ
+scaled_work k c = ceil (c * k) 1000
 
 -- a task with its C scaled
-abbrev pub scaledTask : ℕ → Task → Task
-scaledTask k t = record {
+abbrev pub scaled_task : ℕ → Task → Task
+scaled_task k t = record {
   name = t.name;
-  work = record { 0 = scaledWork k t.work.0 };
+  work = record { 0 = scaled_work k t.work.0 };
   period = t.period;
   deadline = t.deadline;
   jitter = t.jitter;
@@ -25,19 +25,19 @@ scaledTask k t = record {
 }
 
 -- a table with the C of every task scaled
-unfoldable pub scaledBy : ℕ → Table → Table
-scaledBy k table = record {
+unfoldable pub scaled_by : ℕ → Table → Table
+scaled_by k table = record {
   sets = table.sets;
   brt = table.brt;
   count = table.count;
-  tasks = map (scaledTask k) table.tasks;
+  tasks = map (scaled_task k) table.tasks;
   access_count = table.access_count;
   accesses = table.accesses;
 }
 
 -- by k no C of the table is scaled beyond the longest
 abbrev pub FitsBy : ℕ → Table → Type 0
-FitsBy k table = (j : ℕ) → j < table.count → scaledWork k (at table j).work.0 ≤ 250000000
+FitsBy k table = (j : ℕ) → j < table.count → scaled_work k (at table j).work.0 ≤ 250000000
 
 -- what may be scaled, by up to 4,000 thousandths: no place has a C above the longest
 pub record Scalable (k : ℕ) (table : Table) : Type 0 where

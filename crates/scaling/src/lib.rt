@@ -1,6 +1,6 @@
 // Tables whose execution times are scaled. specs/Scaling.antt says what becomes of a C.
 ghost use Rattle.std.specs.Prelude.{◌≡◌, ◌≤◌};
-ghost use Rattle.scaling.specs.Scaling.{scaledWork, scaledBy, Scalable};
+ghost use Rattle.scaling.specs.Scaling.{scaled_work, scaled_by, Scalable};
 
 use table::Table;
 use units::Ticks;
@@ -8,7 +8,7 @@ use units::Ticks;
 // C times k thousandths, rounded up.
 pub fn scaled_work(work: Ticks, k: u64) -> Ticks
     requires { (work.0 ≤ 250000000) × (k ≤ 4000) }
-    ensures { result.0 ≡ scaledWork k work.0 }
+    ensures { result.0 ≡ scaled_work k work.0 }
 {
     Ticks((work.0 * k + 999) / 1000)
 }
@@ -16,7 +16,7 @@ pub fn scaled_work(work: Ticks, k: u64) -> Ticks
 // A table with every C scaled.
 pub fn scaled(table: Table, k: u64) -> Table
     requires { Scalable k table }
-    ensures { result ≡ scaledBy k table }
+    ensures { result ≡ scaled_by k table }
 {
     let mut result = table;
     for j in 0..32usize {

@@ -11,11 +11,11 @@ use lib.ListN.{length}
 use lib.Pow.{pow_mono}
 use lib.Dec.{leb, eqb, lit<}
 use borrow.Author.Tests.{leb-true, le-leb, lt-leb, eq-eqb, ne_eqb, eqb-true}
-use Rattle.hex.specs.Hex.{readHex}
-use Rattle.hex.proofs.HexLaws.{read-lt, read-inj}
+use Rattle.hex_digits.specs.Hex.{read_hex}
+use Rattle.hex_digits.proofs.HexLaws.{read-lt, read-inj}
 use Rattle.sets.specs.declared.CacheSet.{CacheSet}
 use Rattle.sets.specs.declared.SetField.TheVariants.{Marks, Bad}
-use Rattle.sets.specs.Field.{marksSaid, readSet}
+use Rattle.sets.specs.Field.{marks_said, read_set}
 use Rattle.sets.specs.Words.{bits_of, number_of, words_of, members}
 use Rattle.sets.proofs.WordLaws.{number-words, members-words}
 use Rattle.sets.proofs.SetLaws.{and_left, and_right}
@@ -23,16 +23,16 @@ use Rattle.sets.proofs.SetLaws.{and_left, and_right}
 -- ---- a field by its length
 
 module _ (f : List ℕ) (sets : ℕ) where
-  pub too_many : 256 < sets → readSet sets f ≡ Bad
-  unfolding readSet
+  pub too_many : 256 < sets → read_set sets f ≡ Bad
+  unfolding read_set
   too_many h = simp (lt-leb _ _ h)
 
-  pub wrong-length : sets ≤ 256 → (length f ≡ sets / 4 → ⊥) → readSet sets f ≡ Bad
-  unfolding readSet
+  pub wrong-length : sets ≤ 256 → (length f ≡ sets / 4 → ⊥) → read_set sets f ≡ Bad
+  unfolding read_set
   wrong-length h n = simp (le-leb _ _ h, ne_eqb _ _ n)
 
-  pub right-length : sets ≤ 256 → length f ≡ sets / 4 → readSet sets f ≡ marksSaid (readHex 0 f)
-  unfolding readSet
+  pub right-length : sets ≤ 256 → length f ≡ sets / 4 → read_set sets f ≡ marks_said (read_hex 0 f)
+  unfolding read_set
   right-length h e = simp (le-leb _ _ h, eq-eqb _ _ e)
 
 -- ---- what is known of a field that says a set
@@ -40,22 +40,22 @@ module _ (f : List ℕ) (sets : ℕ) where
 -- its number, the set of that number, and its length
 pub record Says (sets : ℕ) (f : List ℕ) (c : CacheSet) : Type 0 where
   pub value : ℕ
-  pub read : readHex 0 f ≡ some value
+  pub read : read_hex 0 f ≡ some value
   pub is : words_of value ≡ c
   pub long : length f ≡ sets / 4
   pub most : sets ≤ 256
 
-said : (o : Option ℕ) (c : CacheSet) → marksSaid o ≡ Marks c → (n : ℕ) × (o ≡ some n) × (words_of n ≡ c)
+said : (o : Option ℕ) (c : CacheSet) → marks_said o ≡ Marks c → (n : ℕ) × (o ≡ some n) × (words_of n ≡ c)
 said (some n) c e = (n, refl, cc)
 said none c e = let z : ◌≡◌ {A = ℕ} 0 1 = cc in absurd (omega arith)
 
-pub says : (sets : ℕ) (f : List ℕ) (c : CacheSet) → readSet sets f ≡ Marks c → Says sets f c
-unfolding readSet
+pub says : (sets : ℕ) (f : List ℕ) (c : CacheSet) → read_set sets f ≡ Marks c → Says sets f c
+unfolding read_set
 says sets f c e = go (leb sets 256 && eqb (length f) (sets / 4)) refl e
   where
-    go : (t : Bool) → (leb sets 256 && eqb (length f) (sets / 4)) ≡ t → cond t (marksSaid (readHex 0 f)) Bad ≡ Marks c → Says sets f c
+    go : (t : Bool) → (leb sets 256 && eqb (length f) (sets / 4)) ≡ t → cond t (marks_said (read_hex 0 f)) Bad ≡ Marks c → Says sets f c
     go true t e =
-        let r = said (readHex 0 f) c e in
+        let r = said (read_hex 0 f) c e in
         record {
           value = r.0;
           read = r.1;
@@ -73,7 +73,7 @@ no-bit n s h e =
     let z : ◌≡◌ {A = ℕ} 0 1 = cc in
     omega arith
 
-pub read_below : (sets : ℕ) (f : List ℕ) (c : CacheSet) → sets % 4 ≡ 0 → readSet sets f ≡ Marks c → (s : ℕ) → members c s ≡ true → s < sets
+pub read_below : (sets : ℕ) (f : List ℕ) (c : CacheSet) → sets % 4 ≡ 0 → read_set sets f ≡ Marks c → (s : ℕ) → members c s ≡ true → s < sets
 read_below sets f c by-four e s m = elim (dec_lt s sets) [ yes l ↦ l | no l ↦ absurd (above l) ]
   where
     r : Says sets f c
@@ -87,7 +87,7 @@ read_below sets f c by-four e s m = elim (dec_lt s sets) [ yes l ↦ l | no l �
 
 -- ---- one spelling: two fields of one length that say the same set are the same bytes
 
-pub one-spelling : (sets : ℕ) (f g : List ℕ) (c : CacheSet) → readSet sets f ≡ Marks c → readSet sets g ≡ Marks c → f ≡ g
+pub one-spelling : (sets : ℕ) (f g : List ℕ) (c : CacheSet) → read_set sets f ≡ Marks c → read_set sets g ≡ Marks c → f ≡ g
 one-spelling sets f g c p q =
     let u = says sets f c p in
     let v = says sets g c q in

@@ -11,7 +11,7 @@ use lib.Bits.{bit_and, bit_or, and_block, or_block, and_shr, or_shr, and_mod, or
 use lib.Count.{ones, ones_step, ones_cat}
 use lib.Dec.{eqb, lit<}
 use Rattle.sets.specs.declared.CacheSet.{CacheSet}
-use Rattle.sets.specs.Sets.{Set, ∅, ◌∪◌, ◌∩◌, sizeBelow, size}
+use Rattle.sets.specs.Sets.{Set, ∅, ◌∪◌, ◌∩◌, size_below, size}
 use Rattle.sets.specs.Words.{bits_of, number_of, members, words_of}
 
 -- The words' range. Where a CacheSet is a parameter, in a local or a call's result, `search needs` finds it.
@@ -72,8 +72,8 @@ members-and = members-op bit_and ◌&&◌ and_block and_shr and_mod and-digit
 
 -- ---- the size is the sum of the words' counts of ones
 
-size-below-low : (k : ℕ) (A : Set) → sizeBelow (suc k) A ≡ cond (A 0) 1 0 + sizeBelow k (λ s. A (suc s))
-unfolding sizeBelow
+size-below-low : (k : ℕ) (A : Set) → size_below (suc k) A ≡ cond (A 0) 1 0 + size_below k (λ s. A (suc s))
+unfolding size_below
 size-below-low zero A = omega arith
 size-below-low (suc k) A = omega (arith, size-below-low k A)
 
@@ -88,12 +88,12 @@ low_bit n = one_bit (n / 1 % 2) (mod-lt (n / 1) (lit< tt)) ∙ ap (λ (x : ℕ).
 rest-bits : (n s : ℕ) → bits_of n (suc s) ≡ bits_of (n / 2) s
 rest-bits n s = ap (λ (x : ℕ). eqb (x % 2) 1) (ap (λ (e : ℕ). n / 2 ^ e) (sym (one-add s)) ∙ sym (shr-shr n 1 s))
 
-pub size-below-bits : (k n : ℕ) → n < 2 ^ k → sizeBelow k (bits_of n) ≡ ones n
-unfolding sizeBelow ones
+pub size-below-bits : (k n : ℕ) → n < 2 ^ k → size_below k (bits_of n) ≡ ones n
+unfolding size_below ones
 size-below-bits zero n h = ap ones (sym (lt-one h))
 size-below-bits (suc k) n h =
     size-below-low k (bits_of n)
-    ∙ ap₂ (λ (x y : ℕ). x + y) (low_bit n) (ap (sizeBelow k) (fun_ext (rest-bits n)) ∙ size-below-bits k (n / 2) (shr_lt k 1 (rw add-one h)))
+    ∙ ap₂ (λ (x y : ℕ). x + y) (low_bit n) (ap (size_below k) (fun_ext (rest-bits n)) ∙ size-below-bits k (n / 2) (shr_lt k 1 (rw add-one h)))
     ∙ sym (ones_step n)
 
 number_lt : (c : CacheSet) → WordsInRange c → number_of c < 2 ^ 256

@@ -5,9 +5,9 @@ ghost use Rattle.std.specs.Int.Count.{ones};
 ghost use Rattle.sets.specs.Sets.{◌∪◌, ◌∩◌, size};
 ghost use Rattle.sets.specs.Words.{members};
 ghost use Rattle.sets.specs.Stored.{held_at, stored_at};
-ghost use Rattle.sets.specs.Field.{readSet};
+ghost use Rattle.sets.specs.Field.{read_set};
 
-use hex::Words;
+use hex_digits::Words;
 use units::Reloads;
 
 // A set of cache sets: cache set s is bit s % 64 of word s / 64.
@@ -112,7 +112,7 @@ impl CacheSet {
 
     // The set that a field of the table text says: sets / 4 hex digits, most significant first.
     pub fn from_field(field: &[u8], sets: u64) -> SetField
-        ensures { result ≡ readSet sets field.now }
+        ensures { result ≡ read_set sets field.now }
     {
         if sets > CacheSet::MOST {
             return SetField::Bad;
@@ -120,7 +120,7 @@ impl CacheSet {
         if field.len() as u64 != sets / 4 {
             return SetField::Bad;
         }
-        let Words::Are(w3, w2, w1, w0) = hex::read_words(field) else {
+        let Words::Are(w3, w2, w1, w0) = hex_digits::read_words(field) else {
             return SetField::Bad;
         };
         SetField::Marks(CacheSet { w0, w1, w2, w3 })

@@ -10,9 +10,9 @@ use mathlib.Core.Logic.{◌⊎◌, inl, inr}
 use lib.Dec.{leb}
 use borrow.Author.Tests.{le-leb, lt-leb}
 use Rattle.demand.specs.declared.Response.TheVariants.{Unschedulable}
-use Rattle.demand.specs.Demand.{Term, ceil, workOf, demandOf}
+use Rattle.demand.specs.Demand.{Term, ceil, work_of, demand_of}
 use Rattle.demand.specs.Terms.{InRange}
-use Rattle.demand.specs.Least.{leastOf}
+use Rattle.demand.specs.Least.{least_of}
 use Rattle.demand.proofs.PositionLaws.{fold-none, fold_next}
 use Rattle.demand.proofs.LeastLaws.{no-solution}
 use Rattle.demand.proofs.DemandLaws.{ceil-mul, sum-le, demand-none, demand-next}
@@ -24,12 +24,12 @@ use Rattle.shares.specs.Shares.{share_of, shares_of}
 share-le : (r q c w t : ℕ) → r ≤ c * t → q * t ≤ w * 17179869184 → r * q ≤ 17179869184 * (c * w)
 share-le r q c w t h k = omega (arith, mul-le-mul_right q h, mul-le-mul_left c k)
 
-pub release-share : (s z : ℕ) (t : Term) → z ≤ ceil (s + t.jitter) t.period * t.period → z * share_of t ≤ 17179869184 * workOf s t
+pub release-share : (s z : ℕ) (t : Term) → z ≤ ceil (s + t.jitter) t.period * t.period → z * share_of t ≤ 17179869184 * work_of s t
 release-share s z t h =
     share-le z (share_of t) (ceil (s + t.jitter) t.period) t.weight t.period h (div-mul-le_self (t.weight * 17179869184) t.period)
 
 -- in s ticks it asks for its share of them and of its jitter
-pub work-share : (s : ℕ) (t : Term) → InRange t → (s + t.jitter) * share_of t ≤ 17179869184 * workOf s t
+pub work-share : (s : ℕ) (t : Term) → InRange t → (s + t.jitter) * share_of t ≤ 17179869184 * work_of s t
 work-share s t p = release-share s (s + t.jitter) t (ceil-mul (s + t.jitter) t.period p.period)
 
 -- ---- the first n terms together
@@ -54,7 +54,7 @@ module _ (t : ℕ → Term) where
 
   -- the demand is no less than the task's own work and the shares
   load-demand : (own n r : ℕ) → ((j : ℕ) → j < n → InRange (t j))
-      → own * 17179869184 + r * shares_of t n ≤ 17179869184 * demandOf own t n r
+      → own * 17179869184 + r * shares_of t n ≤ 17179869184 * demand_of own t n r
   load-demand own zero r p = omega (arith, ap (λ (x : ℕ). r * x) shares-none, demand-none own t r)
   load-demand own (suc n) r p =
       omega (
@@ -67,5 +67,5 @@ module _ (t : ℕ → Term) where
 
   -- no time equals its demand where the terms take the whole processor
   pub full : (own n limit : ℕ) → ((j : ℕ) → j < n → InRange (t j)) → 1 ≤ own → 17179869184 ≤ shares_of t n
-      → Unschedulable ≡ leastOf (demandOf own t n) limit
+      → Unschedulable ≡ least_of (demand_of own t n) limit
   full own n limit p h k = no-solution _ limit (λ s e. omega (arith, load-demand own n s p, mul-le-mul_left s k))

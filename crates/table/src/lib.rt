@@ -2,8 +2,8 @@
 // specs/Reading.antt says what a whole text is, line after line.
 ghost use Rattle.std.specs.Prelude.{◌≡◌, ◌<◌, ◌≤◌, length};
 ghost use Rattle.text.specs.Cut.{lines};
-ghost use Rattle.table.specs.Tasks.{newTable};
-ghost use Rattle.table.specs.Reading.{refused, finished, TasksRead, readFrom, readLines, readText};
+ghost use Rattle.table.specs.Tasks.{new_table};
+ghost use Rattle.table.specs.Reading.{refused, finished, TasksRead, read_from, read_lines, read_text};
 
 use accesses::Access;
 use faults::Finding;
@@ -44,7 +44,7 @@ pub struct Outcome {
 
 // A table of no task yet, and of no access.
 fn new_table(sets: u64, brt: u64) -> Table
-    ensures { result ≡ newTable sets brt }
+    ensures { result ≡ new_table sets brt }
 {
     let none = Task {
         name: Name { bytes: [0u8; 12] },
@@ -105,7 +105,7 @@ fn finish(table: Table) -> Outcome
 // The lines from the first on that is no task line: `names` has the tasks' names.
 fn read_accesses(given: Table, names: [Name; 32], input: &[u8], first: u64) -> Outcome
     requires { TasksRead given names input.now first }
-    ensures { result ≡ readFrom first given (lines input.now) }
+    ensures { result ≡ read_from first given (lines input.now) }
 {
     let mut table = given;
     let mut rest = input;
@@ -137,7 +137,7 @@ fn read_accesses(given: Table, names: [Name; 32], input: &[u8], first: u64) -> O
 
 // The lines below line 1. The names stand in an array of their own too, which is small enough to be passed with each line.
 fn read_tasks(sets: u64, brt: u64, input: &[u8]) -> Outcome
-    ensures { result ≡ readFrom 2 (newTable sets brt) (lines input.now) }
+    ensures { result ≡ read_from 2 (new_table sets brt) (lines input.now) }
 {
     let mut table = new_table(sets, brt);
     let none = Name { bytes: [0u8; 12] };
@@ -176,7 +176,7 @@ fn read_tasks(sets: u64, brt: u64, input: &[u8]) -> Outcome
 // The lines of a text that is not empty.
 fn read_lines(input: &[u8]) -> Outcome
     requires { 0 < length input.now }
-    ensures { result ≡ readLines (lines input.now) }
+    ensures { result ≡ read_lines (lines input.now) }
 {
     let head = text::before(input, b'\n');
     let said = tasks::head_said(head);
@@ -189,7 +189,7 @@ fn read_lines(input: &[u8]) -> Outcome
 
 // The accepted table, or the first refusal: of the whole text, then of its lines from the top.
 pub fn read(input: &[u8]) -> Outcome
-    ensures { result ≡ readText input.now }
+    ensures { result ≡ read_text input.now }
 {
     if let Finding::Fault(number) = faults::text_fault(input) {
         return refuse(number, 0);

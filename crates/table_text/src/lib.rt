@@ -1,12 +1,12 @@
 // The text of a table. specs/TableText.antt has it line by line.
 ghost use Rattle.std.specs.Prelude.{◌+◌, ◌≤◌, length};
 ghost use mathlib.Core.List.{flat_map};
-ghost use Rattle.table.specs.Tasks.{tasksOf, accessesOf};
+ghost use Rattle.table.specs.Tasks.{tasks_of, accesses_of};
 ghost use Rattle.table.specs.Accepted.{AcceptedTable};
-ghost use Rattle.writer.specs.Text.{afterTab};
+ghost use Rattle.writer.specs.Text.{after_tab};
 ghost use Rattle.writer.specs.Wrote.{Wrote};
-ghost use Rattle.marks.specs.Marks.{marksText};
-ghost use Rattle.table_text.specs.TableText.{headText, timeTexts, taskText, accessText, accessTextIn};
+ghost use Rattle.marks.specs.Marks.{marks_text};
+ghost use Rattle.table_text.specs.TableText.{head_text, time_texts, task_text, access_text, access_text_in};
 ghost use Rattle.table_text.specs.Delivered.{TableDelivered};
 
 use accesses::Access;
@@ -19,8 +19,8 @@ use writer::{put_byte, put_field, put_number_field};
 
 // Line 1, at the start of out.
 fn put_head(out: &mut [u8], sets: u64, brt: u64) -> usize
-    requires { length (headText sets brt) ≤ length out.old }
-    ensures { Wrote out.old 0 (headText sets brt) out.new result }
+    requires { length (head_text sets brt) ≤ length out.old }
+    ensures { Wrote out.old 0 (head_text sets brt) out.new result }
 {
     let letter = put_byte(out, 0, b'K');
     let counted = put_number_field(out, letter, sets);
@@ -30,8 +30,8 @@ fn put_head(out: &mut [u8], sets: u64, brt: u64) -> usize
 
 // The times of a task, each a field.
 fn put_times(out: &mut [u8], at: usize, task: Task) -> usize
-    requires { at + length (flat_map afterTab (timeTexts task)) ≤ length out.old }
-    ensures { Wrote out.old at (flat_map afterTab (timeTexts task)) out.new result }
+    requires { at + length (flat_map after_tab (time_texts task)) ≤ length out.old }
+    ensures { Wrote out.old at (flat_map after_tab (time_texts task)) out.new result }
 {
     let worked = put_number_field(out, at, task.work.0);
     let repeated = put_number_field(out, worked, task.period.0);
@@ -43,8 +43,8 @@ fn put_times(out: &mut [u8], at: usize, task: Task) -> usize
 // A tab and a set.
 fn put_set(out: &mut [u8], at: usize, sets: u64, marks: CacheSet) -> usize
     requires sets_bound { sets ≤ 256 }
-    requires marks_in_bounds { at + length (afterTab (marksText sets marks)) ≤ length out.old }
-    ensures { Wrote out.old at (afterTab (marksText sets marks)) out.new result }
+    requires marks_in_bounds { at + length (after_tab (marks_text sets marks)) ≤ length out.old }
+    ensures { Wrote out.old at (after_tab (marks_text sets marks)) out.new result }
 {
     let start = put_byte(out, at, b'\t');
     put_marks(out, start, sets, marks)
@@ -53,8 +53,8 @@ fn put_set(out: &mut [u8], at: usize, sets: u64, marks: CacheSet) -> usize
 // The line of a task.
 fn put_task(out: &mut [u8], at: usize, sets: u64, task: Task) -> usize
     requires sets_bound { sets ≤ 256 }
-    requires task_in_bounds { at + length (taskText sets task) ≤ length out.old }
-    ensures { Wrote out.old at (taskText sets task) out.new result }
+    requires task_in_bounds { at + length (task_text sets task) ≤ length out.old }
+    ensures { Wrote out.old at (task_text sets task) out.new result }
 {
     let bytes = task.name.bytes;
     let letter = put_byte(out, at, b'T');
@@ -70,7 +70,7 @@ fn put_tasks(out: &mut [u8], at: usize, table: Table) -> usize
     requires accepted_table { AcceptedTable table }
     requires at_bound { at ≤ 13 }
     requires in_bounds { 9293 ≤ length out.old }
-    ensures { Wrote out.old at (flat_map (taskText table.sets) (tasksOf table)) out.new result }
+    ensures { Wrote out.old at (flat_map (task_text table.sets) (tasks_of table)) out.new result }
 {
     let sets = table.sets;
     let n = table.count;
@@ -92,8 +92,8 @@ fn put_access(
     access: Access,
 ) -> usize
     requires sets_bound { sets ≤ 256 }
-    requires access_in_bounds { at + length (accessText sets task ceiling access) ≤ length out.old }
-    ensures { Wrote out.old at (accessText sets task ceiling access) out.new result }
+    requires access_in_bounds { at + length (access_text sets task ceiling access) ≤ length out.old }
+    ensures { Wrote out.old at (access_text sets task ceiling access) out.new result }
 {
     let name = task.bytes;
     let top = ceiling.bytes;
@@ -110,7 +110,7 @@ fn put_accesses(out: &mut [u8], at: usize, table: Table) -> usize
     requires accepted_table { AcceptedTable table }
     requires at_bound { 1 ≤ table.access_count → at ≤ 5997 }
     requires in_bounds { 9293 ≤ length out.old }
-    ensures { Wrote out.old at (flat_map (accessTextIn table.sets (tasksOf table)) (accessesOf table)) out.new result }
+    ensures { Wrote out.old at (flat_map (access_text_in table.sets (tasks_of table)) (accesses_of table)) out.new result }
 {
     let sets = table.sets;
     let n = table.access_count;

@@ -2,37 +2,37 @@
 -- Assumes nothing.
 use Rattle.std.specs.Prelude.{ℕ, List, Bool, true, false, ◌&&◌}
 use Rattle.text.specs.Cut.{field}
-use Rattle.fields.specs.Fields.{is_number, number, hasShape, isName}
+use Rattle.fields.specs.Fields.{is_number, number, has_shape, is_name}
 use Rattle.sets.specs.declared.CacheSet.{CacheSet}
 use Rattle.sets.specs.declared.SetField.{SetField}
 use Rattle.sets.specs.declared.SetField.TheVariants.{Marks, Bad}
-use Rattle.sets.specs.Field.{readSet}
+use Rattle.sets.specs.Field.{read_set}
 use Rattle.tasks.specs.declared.HeadLine.{HeadLine}
 use Rattle.tasks.specs.declared.Times.{Times}
 use Rattle.tasks.specs.declared.TaskLine.{TaskLine}
-use Rattle.tasks.specs.Tasks.{packName, no_sets}
+use Rattle.tasks.specs.Tasks.{pack_name, no_sets}
 
 -- what line 1 says: after `K` the cache sets and the ticks that a block reload takes
-unfoldable pub headSaid : List ℕ → HeadLine
-headSaid line = record {
-  shaped = hasShape 75 3 line;
+unfoldable pub head_said : List ℕ → HeadLine
+head_said line = record {
+  shaped = has_shape 75 3 line;
   numbered = is_number (field 1 line) && is_number (field 2 line);
   sets = number (field 1 line);
   brt = number (field 2 line);
 }
 
 -- whether a field is a set of cache sets, and which (none of them where it is no set)
-abbrev pub isMarks : SetField → Bool
-isMarks (Marks c) = true
-isMarks Bad = false
+abbrev pub is_marks : SetField → Bool
+is_marks (Marks c) = true
+is_marks Bad = false
 
-abbrev pub marksOf : SetField → CacheSet
-marksOf (Marks c) = c
-marksOf Bad = no_sets
+abbrev pub marks_of : SetField → CacheSet
+marks_of (Marks c) = c
+marks_of Bad = no_sets
 
 -- what the numbers of a task line say: C, T, D, J and B
-unfoldable pub timesSaid : (work period deadline jitter blocking : List ℕ) → Times
-timesSaid work period deadline jitter blocking = record {
+unfoldable pub times_said : (work period deadline jitter blocking : List ℕ) → Times
+times_said work period deadline jitter blocking = record {
   numbered = is_number work && is_number period && is_number deadline && is_number jitter && is_number blocking;
   work = record { 0 = number work };
   period = record { 0 = number period };
@@ -42,30 +42,30 @@ timesSaid work period deadline jitter blocking = record {
 }
 
 -- what a task line says: after `T` the name, then the times, and the two sets
-unfoldable pub fieldsSaid : ℕ → Bool → (name : List ℕ) → Times → (ucb ecb : List ℕ) → TaskLine
-fieldsSaid sets shaped name times ucb ecb = record {
+unfoldable pub fields_said : ℕ → Bool → (name : List ℕ) → Times → (ucb ecb : List ℕ) → TaskLine
+fields_said sets shaped name times ucb ecb = record {
   shaped = shaped;
-  named = isName name;
+  named = is_name name;
   numbered = times.numbered;
-  marked = isMarks (readSet sets ucb) && isMarks (readSet sets ecb);
+  marked = is_marks (read_set sets ucb) && is_marks (read_set sets ecb);
   task = record {
-    name = packName name;
+    name = pack_name name;
     work = times.work;
     period = times.period;
     deadline = times.deadline;
     jitter = times.jitter;
     blocking = times.blocking;
-    ucb = marksOf (readSet sets ucb);
-    ecb = marksOf (readSet sets ecb);
+    ucb = marks_of (read_set sets ucb);
+    ecb = marks_of (read_set sets ecb);
   };
 }
 
 -- with its shape: nine fields, and `T` the first
-unfoldable pub taskSaid : ℕ → List ℕ → TaskLine
-taskSaid sets line =
-    fieldsSaid sets
-    (hasShape 84 9 line)
+unfoldable pub task_said : ℕ → List ℕ → TaskLine
+task_said sets line =
+    fields_said sets
+    (has_shape 84 9 line)
     (field 1 line)
-    (timesSaid (field 2 line) (field 3 line) (field 4 line) (field 5 line) (field 6 line))
+    (times_said (field 2 line) (field 3 line) (field 4 line) (field 5 line) (field 6 line))
     (field 7 line)
     (field 8 line)

@@ -1,8 +1,8 @@
 // Tasks, and what a line says: line 1, and a task line.
 // specs/Said.antt says it field by field.
 ghost use Rattle.std.specs.Prelude.{◌≡◌};
-ghost use Rattle.tasks.specs.Tasks.{packName};
-ghost use Rattle.tasks.specs.Said.{headSaid, isMarks, marksOf, timesSaid, fieldsSaid, taskSaid};
+ghost use Rattle.tasks.specs.Tasks.{pack_name};
+ghost use Rattle.tasks.specs.Said.{head_said, is_marks, marks_of, times_said, fields_said, task_said};
 
 use sets::{CacheSet, SetField};
 use units::Ticks;
@@ -47,7 +47,7 @@ pub struct TaskLine {
 
 // What line 1 says. It has three fields where it goes on past the second and not past the third.
 pub fn head_said(line: &[u8]) -> HeadLine
-    ensures { result ≡ headSaid line.now }
+    ensures { result ≡ head_said line.now }
 {
     let letter = text::before(line, b'\t');
     let from_sets = text::past(line, b'\t', letter);
@@ -67,7 +67,7 @@ pub fn head_said(line: &[u8]) -> HeadLine
 
 // A name in 12 bytes, filled up with zeros.
 pub fn pack_name(f: &[u8]) -> Name
-    ensures { result ≡ packName f.now }
+    ensures { result ≡ pack_name f.now }
 {
     let mut bytes = [0u8; 12];
     let mut i = 0;
@@ -83,7 +83,7 @@ pub fn pack_name(f: &[u8]) -> Name
 
 // Whether a field is a set of cache sets.
 pub fn is_marks(f: SetField) -> bool
-    ensures { result ≡ isMarks f }
+    ensures { result ≡ is_marks f }
 {
     match f {
         SetField::Marks(_) => true,
@@ -93,7 +93,7 @@ pub fn is_marks(f: SetField) -> bool
 
 // The set, and the empty one where there is none.
 pub fn marks_of(f: SetField) -> CacheSet
-    ensures { result ≡ marksOf f }
+    ensures { result ≡ marks_of f }
 {
     match f {
         SetField::Marks(marks) => marks,
@@ -114,7 +114,7 @@ struct Times {
 
 // Each field is read once.
 fn times_said(work: &[u8], period: &[u8], deadline: &[u8], jitter: &[u8], blocking: &[u8]) -> Times
-    ensures { result ≡ timesSaid work.now period.now deadline.now jitter.now blocking.now }
+    ensures { result ≡ times_said work.now period.now deadline.now jitter.now blocking.now }
 {
     let work = fields::read_number(work);
     let period = fields::read_number(period);
@@ -144,7 +144,7 @@ fn fields_said(
     ucb: &[u8],
     ecb: &[u8],
 ) -> TaskLine
-    ensures { result ≡ fieldsSaid sets shaped name.now times ucb.now ecb.now }
+    ensures { result ≡ fields_said sets shaped name.now times ucb.now ecb.now }
 {
     let named = fields::is_name(name);
     let name = pack_name(name);
@@ -176,7 +176,7 @@ fn fields_said(
 
 // What a task line says. Each field is found once, from the left. The line has nine where it goes on past the eighth and not past the ninth.
 pub fn task_said(sets: u64, line: &[u8]) -> TaskLine
-    ensures { result ≡ taskSaid sets line.now }
+    ensures { result ≡ task_said sets line.now }
 {
     let letter = text::before(line, b'\t');
     let from_name = text::past(line, b'\t', letter);

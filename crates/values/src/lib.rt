@@ -1,6 +1,6 @@
 // Tables written for tests in other languages: every value that a table can be comes as a list of numbers. specs/Values.antt says which they are.
 ghost use Rattle.std.specs.Prelude.{◌≡◌, ◌≤◌, length};
-ghost use Rattle.values.specs.Values.{taskFrom, accessFrom, tableFrom, ValueCoded};
+ghost use Rattle.values.specs.Values.{task_from, access_from, table_from, ValueCoded};
 
 use accesses::Access;
 use crpd::exported::written_code;
@@ -11,7 +11,7 @@ use units::Ticks;
 
 fn name_from(numbers: &[u64]) -> Name
     requires { 25 ≤ length numbers.now }
-    ensures { result ≡ (taskFrom numbers.now).name }
+    ensures { result ≡ (task_from numbers.now).name }
 {
     let mut bytes = [0u8; 12];
     for k in 0..12usize {
@@ -22,7 +22,7 @@ fn name_from(numbers: &[u64]) -> Name
 
 fn task_from(numbers: &[u64]) -> Task
     requires { 25 ≤ length numbers.now }
-    ensures { result ≡ taskFrom numbers.now }
+    ensures { result ≡ task_from numbers.now }
 {
     let words = &numbers[17..];
     Task {
@@ -39,7 +39,7 @@ fn task_from(numbers: &[u64]) -> Task
 
 fn access_from(numbers: &[u64]) -> Access
     requires { 7 ≤ length numbers.now }
-    ensures { result ≡ accessFrom numbers.now }
+    ensures { result ≡ access_from numbers.now }
 {
     let words = &numbers[3..];
     Access {
@@ -52,7 +52,7 @@ fn access_from(numbers: &[u64]) -> Access
 
 fn table_from(numbers: &[u64]) -> Table
     requires { 1028 ≤ length numbers.now }
-    ensures { result ≡ tableFrom numbers.now }
+    ensures { result ≡ table_from numbers.now }
 {
     let first = task_from(&numbers[3..]);
     let mut tasks = [first; 32];

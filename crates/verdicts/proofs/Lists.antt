@@ -7,13 +7,13 @@ use lib.ListN.{length, take, set, get_or}
 use lib.Seq.{take-suc-set}
 use Rattle.demand.specs.Positions.{run, between, methods}
 use Rattle.demand.proofs.PositionLaws.{map_next, map_at, map_same}
-use Rattle.writer.proofs.Writes.{flatMap-snoc, flatMap-map}
+use Rattle.writer.proofs.Writes.{flat_map-snoc, flat_map-map}
 
 -- ---- one position more
 
-pub flatMap-more : (f : ℕ → List ℕ) (n : ℕ) → flat_map f (between 0 n) ++ f n ≡ flat_map f (between 0 (n + 1))
-flatMap-more f n =
-    rw (← flatMap-map (λ t. t) f (between 0 n), ← flatMap-map (λ t. t) f (between 0 (n + 1)), map_next f n) (sym (flatMap-snoc (λ t. t) (map f (between 0 n)) (f n)))
+pub flat_map-more : (f : ℕ → List ℕ) (n : ℕ) → flat_map f (between 0 n) ++ f n ≡ flat_map f (between 0 (n + 1))
+flat_map-more f n =
+    rw (← flat_map-map (λ t. t) f (between 0 n), ← flat_map-map (λ t. t) f (between 0 (n + 1)), map_next f n) (sym (flat_map-snoc (λ t. t) (map f (between 0 n)) (f n)))
 
 -- an array that is filled from the front, by a function of the index
 pub filled_more : {A : Type 0} (f : ℕ → A) (xs : List A) (i : ℕ) (x : A) → i < length xs → x ≡ f i → take i xs ≡ map f (between 0 i) → take (i + 1) (set xs i x) ≡ map f (between 0 (i + 1))
@@ -21,9 +21,9 @@ filled_more f xs i x h v e = rw (map_next f i, add-one i, take-suc-set xs i x h,
 
 -- ---- functions that agree
 
-pub flatMap-same : (f g : ℕ → List ℕ) (n : ℕ) → ((i : ℕ) → i < n → f i ≡ g i) → flat_map f (between 0 n) ≡ flat_map g (between 0 n)
-flatMap-same f g n h =
-    sym (flatMap-map (λ t. t) f (between 0 n)) ∙ ap (flat_map (λ t. t)) (map_same f g n h) ∙ flatMap-map (λ t. t) g (between 0 n)
+pub flat_map-same : (f g : ℕ → List ℕ) (n : ℕ) → ((i : ℕ) → i < n → f i ≡ g i) → flat_map f (between 0 n) ≡ flat_map g (between 0 n)
+flat_map-same f g n h =
+    sym (flat_map-map (λ t. t) f (between 0 n)) ∙ ap (flat_map (λ t. t)) (map_same f g n h) ∙ flat_map-map (λ t. t) g (between 0 n)
 
 -- ---- the methods
 

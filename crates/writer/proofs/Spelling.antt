@@ -7,18 +7,18 @@ use native.Mathlib.Omega.{arith}
 use native.Mathlib.Decide.{dec_lt}
 use borrow.Author.Tests.{lt-ltb, le-ltb}
 use lib.ListN.{length, length-append}
-use Rattle.writer.specs.Text.{digitByte, digitsOf, spelled}
+use Rattle.writer.specs.Text.{digit_byte, digits_of, spelled}
 
-digits_low : (k n : ℕ) → n < 10 → digitsOf (suc k) n ≡ digitByte n ∷ []
-unfolding digitsOf
-digits_low k n h = rw (lt-ltb n 10 h, digitsOf)
+digits_low : (k n : ℕ) → n < 10 → digits_of (suc k) n ≡ digit_byte n ∷ []
+unfolding digits_of
+digits_low k n h = rw (lt-ltb n 10 h, digits_of)
 
-digits-high : (k n : ℕ) → 10 ≤ n → digitsOf (suc k) n ≡ digitsOf k (n / 10) ++ (digitByte (n % 10) ∷ [])
-unfolding digitsOf
-digits-high k n h = rw (le-ltb n 10 h, digitsOf)
+digits-high : (k n : ℕ) → 10 ≤ n → digits_of (suc k) n ≡ digits_of k (n / 10) ++ (digit_byte (n % 10) ∷ [])
+unfolding digits_of
+digits-high k n h = rw (le-ltb n 10 h, digits_of)
 
 -- two bounds that are both large enough give the same digits
-enough : (j k n : ℕ) → n < j → n < k → digitsOf j n ≡ digitsOf k n
+enough : (j k n : ℕ) → n < j → n < k → digits_of j n ≡ digits_of k n
 enough zero k n p q = absurd (omega arith)
 enough (suc j) zero n p q = absurd (omega arith)
 enough (suc j) (suc k) n p q =
@@ -29,11 +29,11 @@ enough (suc j) (suc k) n p q =
           digits-high j n high ∙ rw (enough j k (n / 10) (omega arith) (omega arith)) (sym (digits-high k n high))
     ]
 
-pub spelled-low : (n : ℕ) → n < 10 → spelled n ≡ digitByte n ∷ []
+pub spelled-low : (n : ℕ) → n < 10 → spelled n ≡ digit_byte n ∷ []
 unfolding spelled
 spelled-low n h = digits_low n n h
 
-pub spelled-high : (n : ℕ) → 10 ≤ n → spelled n ≡ spelled (n / 10) ++ (digitByte (n % 10) ∷ [])
+pub spelled-high : (n : ℕ) → 10 ≤ n → spelled n ≡ spelled (n / 10) ++ (digit_byte (n % 10) ∷ [])
 unfolding spelled
 spelled-high n h = digits-high n n h ∙ rw (enough n (suc (n / 10)) (n / 10) (omega arith) (omega arith))
 

@@ -42,16 +42,16 @@ counted {d₀} {text} {d} {r} w =
     (omega (arith, e, length-take r d), sym e)
 
 -- the texts of a list with one element more at its end
-pub flatMap-snoc : {A : Type 0} (f : A → List ℕ) (xs : List A) (x : A) → flat_map f (xs ++ (x ∷ [])) ≡ flat_map f xs ++ f x
+pub flat_map-snoc : {A : Type 0} (f : A → List ℕ) (xs : List A) (x : A) → flat_map f (xs ++ (x ∷ [])) ≡ flat_map f xs ++ f x
 unfolding flat_map
-flatMap-snoc f [] x = append-nil (f x)
-flatMap-snoc f (y ∷ ys) x = rw (flatMap-snoc f ys x) (sym (append_assoc (f y) (flat_map f ys) (f x)))
+flat_map-snoc f [] x = append-nil (f x)
+flat_map-snoc f (y ∷ ys) x = rw (flat_map-snoc f ys x) (sym (append_assoc (f y) (flat_map f ys) (f x)))
 
 -- the texts of the first elements, and of one element more
-pub flatMap-take : {A : Type 0} (f : A → List ℕ) (xs : List A) (i : ℕ) (d : A) → i < length xs → flat_map f (take i xs) ++ f (get_or xs i d) ≡ flat_map f (take (i + 1) xs)
-flatMap-take f xs i d h = rw (add-one i, take-suc xs i d h, flatMap-snoc)
+pub flat_map-take : {A : Type 0} (f : A → List ℕ) (xs : List A) (i : ℕ) (d : A) → i < length xs → flat_map f (take i xs) ++ f (get_or xs i d) ≡ flat_map f (take (i + 1) xs)
+flat_map-take f xs i d h = rw (add-one i, take-suc xs i d h, flat_map-snoc)
 
-pub flatMap-map : {A B : Type 0} (f : B → List ℕ) (g : A → B) (xs : List A) → flat_map f (map g xs) ≡ flat_map (λ x. f (g x)) xs
+pub flat_map-map : {A B : Type 0} (f : B → List ℕ) (g : A → B) (xs : List A) → flat_map f (map g xs) ≡ flat_map (λ x. f (g x)) xs
 unfolding flat_map
-flatMap-map f g [] = refl
-flatMap-map f g (x ∷ xs) = rw (flatMap-map f g xs)
+flat_map-map f g [] = refl
+flat_map-map f g (x ∷ xs) = rw (flat_map-map f g xs)

@@ -1,6 +1,6 @@
 // Writes of a text into a buffer from a position on. Each answers the position after the text.
 ghost use Rattle.std.specs.Prelude.{[], ◌∷◌, ◌+◌, ◌≤◌, ◌<◌, length};
-ghost use Rattle.writer.specs.Text.{spelled, afterTab};
+ghost use Rattle.writer.specs.Text.{spelled, after_tab};
 ghost use Rattle.writer.specs.Wrote.{Wrote};
 
 pub fn put_byte(out: &mut [u8], at: usize, b: u8) -> usize
@@ -37,8 +37,8 @@ pub fn put_number(out: &mut [u8], at: usize, n: u64) -> usize
 
 // A tab and a text.
 pub fn put_field(out: &mut [u8], at: usize, text: &[u8]) -> usize
-    requires { at + length (afterTab text.now) ≤ length out.old }
-    ensures { Wrote out.old at (afterTab text.now) out.new result }
+    requires { at + length (after_tab text.now) ≤ length out.old }
+    ensures { Wrote out.old at (after_tab text.now) out.new result }
 {
     let start = put_byte(out, at, b'\t');
     put_bytes(out, start, text)
@@ -46,8 +46,8 @@ pub fn put_field(out: &mut [u8], at: usize, text: &[u8]) -> usize
 
 // A tab and a number.
 pub fn put_number_field(out: &mut [u8], at: usize, n: u64) -> usize
-    requires { at + length (afterTab (spelled n)) ≤ length out.old }
-    ensures { Wrote out.old at (afterTab (spelled n)) out.new result }
+    requires { at + length (after_tab (spelled n)) ≤ length out.old }
+    ensures { Wrote out.old at (after_tab (spelled n)) out.new result }
 {
     let start = put_byte(out, at, b'\t');
     put_number(out, start, n)

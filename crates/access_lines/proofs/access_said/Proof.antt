@@ -2,17 +2,17 @@
 -- Assumes nothing.
 use mathlib.Core.Path.{◌∙◌}
 use borrow.Author.Rules.{rules}
-use Rattle.text.specs.Cut.{pastTabs, field}
+use Rattle.text.specs.Cut.{past_tabs, field}
 use Rattle.text.proofs.Shape.{fields-are}
-use Rattle.fields.specs.Fields.{hasShape}
-use Rattle.access_lines.specs.AccessLines.{accessSaid}
+use Rattle.fields.specs.Fields.{has_shape}
+use Rattle.access_lines.specs.AccessLines.{access_said}
 use Rattle.tasks.proofs.Said.{number-said, set-said}
 use Rattle.access_lines.proofs.Said.{position-said, access-line-said}
 use Rattle.access_lines.proofs.access_said.Statement.{statement}
 use Rattle.access_lines.proofs.access_said.Tie as tie
 
 returns : tie.Need-returns
-unfolding accessSaid hasShape field pastTabs
+unfolding access_said has_shape field past_tabs
 returns c =
     let a1 = c.before in
     let a2 = a1.before in

@@ -4,15 +4,15 @@ use mathlib.Core.Path.{◌≡◌, ap₂, ◌∙◌}
 use native.Mathlib.Omega.{arith}
 use lib.ListN.{take}
 use borrow.Author.Rules.{rules}
-use Rattle.demand.specs.Least.{toldOf, later}
-use Rattle.analysis.specs.Analysis.{latestOn}
+use Rattle.demand.specs.Least.{told_of, later}
+use Rattle.analysis.specs.Analysis.{latest_on}
 use Rattle.analysis.proofs.AnswerLaws.{latest-first, latest-step}
 use Rattle.analysis.proofs.latest_within.Statement.{statement}
 use Rattle.analysis.proofs.latest_within.Tie as tie
 
 abbrev invariant-loop : tie.invariant-loop
 invariant-loop board method i limit blockers row latest₀ count n₀ latest n =
-    (1 ≤ n) × (n ≤ count) × (toldOf latest ≡ latestOn board (take n blockers.accesses) method i limit.0)
+    (1 ≤ n) × (n ≤ count) × (told_of latest ≡ latest_on board (take n blockers.accesses) method i limit.0)
 
 abbrev decreases-loop : tie.decreases-loop
 decreases-loop board method i limit blockers row latest₀ count n₀ latest n = count - n

@@ -7,7 +7,7 @@ use Rattle.sets.specs.Sets.{size}
 use Rattle.accesses.proofs.AddedLaws.{added-above}
 use Rattle.board.proofs.LentLaws.{lent-few}
 use Rattle.costs.specs.declared.Charge.TheVariants.{Victim}
-use Rattle.costs.specs.Gather.{hit, largerOf}
+use Rattle.costs.specs.Gather.{hit, larger_of}
 use Rattle.costs.proofs.ListedLaws.{hit_same}
 use Rattle.one_row.proofs.RowLaws.{hit-in-front}
 use Rattle.blocked_row.specs.BlockedRow.{ChargedUnder}
@@ -39,7 +39,7 @@ loop-again c =
       omega (arith, h.loop.invariant.0),
       rw c.keep-hit.ensures
           (hit-in-front 2 a.i h.loop.j j (omega arith) (omega (arith, h.loop.invariant.0)) (omega arith) h.loop.invariant.1 _
-          (ap Victim (hit_same h.loop.row j _ (omega (arith, h.loop.invariant.0, h.loop.invariant.1.long)) ∙ larger.larger.ensures ∙ ap₂ largerOf there (ap (λ (n : ℕ). hit n a.access.task) added)))),
+          (ap Victim (hit_same h.loop.row j _ (omega (arith, h.loop.invariant.0, h.loop.invariant.1.long)) ∙ larger.larger.ensures ∙ ap₂ larger_of there (ap (λ (n : ℕ). hit n a.access.task) added)))),
     )
 
 returns : tie.Need-returns invariant-loop decreases-loop

@@ -5,12 +5,12 @@ use native.Mathlib.Omega.{arith}
 use Rattle.demand.specs.Positions.{front}
 use Rattle.demand.proofs.FrontLaws.{front-none, front-next}
 use Rattle.board.proofs.LentLaws.{lent-few, lent-long, lent-brt, lent-ranged}
-use Rattle.blocked_row.specs.BlockedRow.{weightIn}
+use Rattle.blocked_row.specs.BlockedRow.{weight_in}
 use Rattle.blocked_row.proofs.weights.Statement.{statement}
 use Rattle.blocked_row.proofs.weights.Tie as tie
 
 abbrev invariant-loop : tie.invariant-loop
-invariant-loop board i row brt all₀ j₀ all j = (j ≤ i) × (all ≡ front 0 (weightIn board row) j)
+invariant-loop board i row brt all₀ j₀ all j = (j ≤ i) × (all ≡ front 0 (weight_in board row) j)
 
 abbrev decreases-loop : tie.decreases-loop
 decreases-loop board i row brt all₀ j₀ all j = i - j
@@ -32,7 +32,7 @@ loop-again c =
     let a = s.args in
     let few = lent-few s.requires.0 in (
       omega (arith, inside.loop-test.true),
-      rw h.loop.invariant.1 (front-next 0 (weightIn a.board.now a.row.now) h.loop.j _ (omega (arith, inside.loop-test.true)) c.weight.ensures),
+      rw h.loop.invariant.1 (front-next 0 (weight_in a.board.now a.row.now) h.loop.j _ (omega (arith, inside.loop-test.true)) c.weight.ensures),
     )
 
 returns : tie.Need-returns invariant-loop decreases-loop

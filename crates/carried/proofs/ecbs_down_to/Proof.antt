@@ -5,7 +5,7 @@ use mathlib.Core.Path.{◌≡◌, sym, ap, ◌∙◌}
 use borrow.Author.Rules.{rules}
 use Rattle.sets.specs.Words.{members}
 use Rattle.sets.proofs.SetLaws.{union-empty}
-use Rattle.board.specs.Board.{ecbOn}
+use Rattle.board.specs.Board.{ecb_on}
 use Rattle.board.proofs.LentLaws.{lent-few, lent-long}
 use Rattle.costs.proofs.UnionLaws.{union-none, union-next}
 use Rattle.carried.proofs.ecbs_down_to.Statement.{statement}
@@ -16,7 +16,7 @@ returns c =
     let own = c.before in
     let a = own.before.before.before.args in
     let first : a.i ≡ 0 = omega arith in
-    let E = ecbOn a.board.now in
+    let E = ecb_on a.board.now in
     sym (union-empty _) ∙ union-next E 0 a.i _ _ (omega arith) (rw first (union-none E 0)) (ap members own.at.ensures)
 
 returns-2 : tie.Need-returns-2
@@ -27,7 +27,7 @@ returns-2 c =
     let last : a.i - 1 + 1 ≡ a.i = omega arith in
     let above = (s.requires.1.past (a.i - 1) (omega arith)).above in
     c.union.ensures
-    ∙ union-next (ecbOn a.board.now) 0 a.i _ _ (omega arith) (rw last at (ap members c.before.at2.ensures ∙ above)) (ap members own.at.ensures)
+    ∙ union-next (ecb_on a.board.now) 0 a.i _ _ (omega arith) (rw last at (ap members c.before.at2.ensures ∙ above)) (ap members own.at.ensures)
 
 pub ecbs-down-to-spec : {M : Type 1} → statement M
 ecbs-down-to-spec =

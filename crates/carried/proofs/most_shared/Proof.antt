@@ -6,7 +6,7 @@ use borrow.Author.Rules.{rules}
 use Rattle.sets.specs.Sets.{◌∩◌, size}
 use Rattle.sets.specs.Words.{members}
 use Rattle.sets.proofs.SetLaws.{size-inter-left}
-use Rattle.costs.specs.Gather.{hit, largerOf}
+use Rattle.costs.specs.Gather.{hit, larger_of}
 use Rattle.costs.proofs.HitLaws.{larger-first}
 use Rattle.carried.proofs.most_shared.Statement.{statement}
 use Rattle.carried.proofs.most_shared.Tie as tie
@@ -20,7 +20,7 @@ returns c =
 returns-2 : tie.Need-returns-2
 returns-2 c =
     let a = c.before.before.before.before.before.args in
-    c.larger.ensures ∙ ap (λ (n : ℕ). largerOf a.most (hit n a.useful.victim)) c.before.shared-size.ensures
+    c.larger.ensures ∙ ap (λ (n : ℕ). larger_of a.most (hit n a.useful.victim)) c.before.shared-size.ensures
 
 pub most-shared-spec : {M : Type 1} → statement M
 most-shared-spec = tie.close (tie.spec returns (λ c κs. search rules) (λ c κs. search rules) returns-2)

@@ -7,10 +7,10 @@ use native.Mathlib.Decide.{dec_le}
 use borrow.Author.Rules.{rules}
 use Rattle.sets.specs.Words.{members}
 use Rattle.demand.specs.Positions.{hp}
-use Rattle.board.specs.Board.{ecbOn}
+use Rattle.board.specs.Board.{ecb_on}
 use Rattle.board.proofs.LentLaws.{lent-few, lent-long, lent-brt, lent-ranged}
-use Rattle.costs.specs.Gather.{unionOf}
-use Rattle.costs.specs.Costs.{weightOnUnder}
+use Rattle.costs.specs.Gather.{union_of}
+use Rattle.costs.specs.Costs.{weight_on_under}
 use Rattle.costs.proofs.BoardLaws.{weight-past}
 use Rattle.carried.specs.Carried.{Next, Column, Put, InRow}
 use Rattle.carried.proofs.PutLaws.{row-none, row_next}
@@ -20,7 +20,7 @@ use Rattle.carried.proofs.weigh_access.Tie as tie
 
 abbrev invariant-loop : tie.invariant-loop
 invariant-loop board i ledger access weights₀ brt useful ceiling j₀ weights j =
-    (j ≤ access.ceiling) × Put (InRow j) (λ m b. weightOnUnder board access m i b) weights₀ weights
+    (j ≤ access.ceiling) × Put (InRow j) (λ m b. weight_on_under board access m i b) weights₀ weights
 
 abbrev decreases-loop : tie.decreases-loop
 decreases-loop board i ledger access weights₀ brt useful ceiling j₀ weights j = ceiling - j
@@ -47,7 +47,7 @@ column c = c.before.before.before.before.before.before.requires.2.columns _ (ome
 
 -- what is gathered for j with the access's UCB
 next : (c : tie.After-gather invariant-loop decreases-loop) → let h = c.before.before.before.before in let a = h.before.before.before.before.before.args in
-    Next c.before.gathered-for.result (members a.access.ucb) (unionOf (ecbOn a.board.now) (hp (h.loop.j + 1))) a.access.task c.gather.result
+    Next c.before.gathered-for.result (members a.access.ucb) (union_of (ecb_on a.board.now) (hp (h.loop.j + 1))) a.access.task c.gather.result
 next c =
     let set = c.before.before in rw (ap members set.at.ensures ∙ (column set.before).above) at c.gather.ensures
 

@@ -4,10 +4,10 @@ use mathlib.Core.Path.{◌≡◌, ap, ◌∙◌}
 use native.Mathlib.Omega.{arith}
 use Rattle.sets.specs.Words.{members}
 use Rattle.demand.specs.Positions.{hp}
-use Rattle.board.specs.Board.{ucbOn, ecbOn}
+use Rattle.board.specs.Board.{ucb_on, ecb_on}
 use Rattle.board.proofs.LentLaws.{lent-few, lent-long, lent-brt, lent-ranged}
-use Rattle.costs.specs.Gather.{unionOf}
-use Rattle.costs.specs.Costs.{weightOn}
+use Rattle.costs.specs.Gather.{union_of}
+use Rattle.costs.specs.Costs.{weight_on}
 use Rattle.carried.specs.Carried.{Carried, Passing, Put, InRow}
 use Rattle.carried.proofs.PutLaws.{row-none, row_next}
 use Rattle.carried.proofs.CarriedLaws.{carried-next, carried-small, passing-none, passing-next, pair-weighed}
@@ -17,7 +17,7 @@ use Rattle.carried.proofs.weigh_row.Tie as tie
 
 abbrev invariant-loop : tie.invariant-loop
 invariant-loop board i ledger₀ weights₀ brt marks useful j₀ ledger weights j =
-    (j ≤ i) × Passing board i j ledger × Put (InRow j) (λ m b. weightOn board m i b) weights₀ weights
+    (j ≤ i) × Passing board i j ledger × Put (InRow j) (λ m b. weight_on board m i b) weights₀ weights
 
 abbrev decreases-loop : tie.decreases-loop
 decreases-loop board i ledger₀ weights₀ brt marks useful j₀ ledger weights j = i - j
@@ -31,7 +31,7 @@ few c = omega (arith, lent-few c.before.before.before.before.before.requires.0)
 
 -- what is gathered for j goes one row further
 further : (c : tie.After-gather invariant-loop decreases-loop) → let h = c.before.before.before.before.before.before.before.before in let a = h.before.before.before.before.before.args in
-    Carried (ucbOn a.board.now) (unionOf (ecbOn a.board.now) (hp (h.loop.j + 1))) h.loop.j (a.i + 1) c.gather.result
+    Carried (ucb_on a.board.now) (union_of (ecb_on a.board.now) (hp (h.loop.j + 1))) h.loop.j (a.i + 1) c.gather.result
 further c =
     let column = c.before.before.before.before in
     let inside = column.before.before.before in

@@ -1,7 +1,7 @@
 -- `crpd::answer` meets its contract, by the ruling.
 -- Assumes nothing.
 use mathlib.Core.Path.{ap, ◌∙◌}
-use Rattle.crpd.specs.Operations.{replyOf}
+use Rattle.crpd.specs.Operations.{reply_of}
 use Rattle.crpd.proofs.Steps.{answer-refused, ruled-answerable, answer-accepted}
 use borrow.Author.Rules.{rules}
 use Rattle.crpd.proofs.answer.Statement.{statement}
@@ -24,7 +24,7 @@ returns-2 c =
     let v = c.before.before.before.before in
     let r = v.before.before.read in
     c.reply-of.ensures
-    ∙ ap replyOf c.before.respond.ensures
+    ∙ ap reply_of c.before.respond.ensures
     ∙ answer-accepted _ r.result r.ensures _ _ v.task-ruling.result v.task-ruling.ensures c.before.before.enum_told.given.1
 
 pub answer-spec : {M : Type 1} → statement M

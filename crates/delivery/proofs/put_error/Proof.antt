@@ -5,10 +5,10 @@ use Prim.Native.Nat.{ℕ, ◌≤◌}
 use native.Mathlib.Omega.{arith}
 use lib.ListN.{length}
 use Rattle.table.specs.declared.Refusal.{Refusal}
-use Rattle.writer.specs.Text.{spelled, afterTab}
+use Rattle.writer.specs.Text.{spelled, after_tab}
 use Rattle.writer.proofs.Spelling.{spelled-short}
 use Rattle.writer.proofs.Writes.{◌then◌, reading}
-use Rattle.delivery.specs.Error.{errorText}
+use Rattle.delivery.specs.Error.{error_text}
 use borrow.Author.Rules.{rules}
 use Rattle.delivery.proofs.put_error.Statement.{statement}
 use Rattle.delivery.proofs.put_error.Tie as tie
@@ -17,9 +17,9 @@ regroup : (a b c d : List ℕ) → a ++ b ++ c ++ d ≡ a ++ (b ++ (c ++ [])) ++
 regroup a b c d = simp (append_assoc, append-nil)
 
 -- the line as its four writes give it: letter, number, line and LF
-error-parts : (e : Refusal) → (69 ∷ []) ++ afterTab (spelled e.number) ++ afterTab (spelled e.line) ++ (10 ∷ []) ≡ errorText e
-unfolding errorText flat_map
-error-parts e = regroup (69 ∷ []) (afterTab (spelled e.number)) (afterTab (spelled e.line)) (10 ∷ [])
+error-parts : (e : Refusal) → (69 ∷ []) ++ after_tab (spelled e.number) ++ after_tab (spelled e.line) ++ (10 ∷ []) ≡ error_text e
+unfolding error_text flat_map
+error-parts e = regroup (69 ∷ []) (after_tab (spelled e.number)) (after_tab (spelled e.line)) (10 ∷ [])
 
 number_short : (c : tie.Start) → length (spelled c.args.e.number) ≤ 20
 number_short c = spelled-short 19 c.args.e.number (search rules)

@@ -8,7 +8,7 @@ use borrow.Author.Rules.{rules}
 use lib.Dec.{ltb}
 use lib.ListN.{length, take}
 use lib.Seq.{length-take-le}
-use Rattle.faults.specs.Faults.{firstBlocked, blockedFault}
+use Rattle.faults.specs.Faults.{first_blocked, blocked_fault}
 use Rattle.faults.proofs.Chain.{passed-row, met-row, no_row}
 use Rattle.tasks.proofs.Arrays.{length-mapped}
 use Rattle.faults.proofs.blocked_fault.Statement.{statement}
@@ -22,7 +22,7 @@ long c =
 
 -- the row's condition, as it is tested
 tested : (c : tie.After-first-blocked)
-    → (ltb 0 c.before.args.accesses && ltb (firstBlocked (take c.before.args.count c.before.args.tasks)) (length (take c.before.args.count c.before.args.tasks)))
+    → (ltb 0 c.before.args.accesses && ltb (first_blocked (take c.before.args.count c.before.args.tasks)) (length (take c.before.args.count c.before.args.tasks)))
     ≡ (ltb 0 c.before.args.accesses && ltb c.first-blocked.result c.before.args.count)
 tested c =
     let a = c.before.args in
@@ -30,11 +30,11 @@ tested c =
     ap₂ (λ (k n : ℕ). ltb 0 a.accesses && ltb k n) (sym c.first-blocked.ensures) (length-take-le a.count a.tasks (omega (arith, long c.before)))
 
 returns : tie.Need-returns
-unfolding blockedFault
+unfolding blocked_fault
 returns c = met-row _ _ _ (tested c.before ∙ c.if1.true)
 
 returns-2 : tie.Need-returns-2
-unfolding blockedFault
+unfolding blocked_fault
 returns-2 c = no_row ∙ passed-row _ _ _ (tested c.before ∙ c.if1.false)
 
 pub blocked-fault-spec : {M : Type 1} → statement M

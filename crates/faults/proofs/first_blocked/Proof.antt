@@ -5,7 +5,7 @@ use mathlib.Core.Path.{◌≡◌, ◌∙◌}
 use native.Mathlib.Omega.{arith}
 use borrow.Author.Rules.{rules}
 use lib.ListN.{length, take, drop}
-use Rattle.faults.specs.Faults.{firstBlocked}
+use Rattle.faults.specs.Faults.{first_blocked}
 use Rattle.tasks.specs.declared.Task.{Task}
 use mathlib.Core.Bool.{Bool}
 use lib.Dec.{ltb}
@@ -16,7 +16,7 @@ use Rattle.faults.proofs.first_blocked.Statement.{statement}
 use Rattle.faults.proofs.first_blocked.Tie as tie
 
 abbrev invariant-loop : tie.invariant-loop
-invariant-loop count tasks i₀ i = (i ≤ count) × (i + firstBlocked (drop i (take count tasks)) ≡ firstBlocked (take count tasks))
+invariant-loop count tasks i₀ i = (i ≤ count) × (i + first_blocked (drop i (take count tasks)) ≡ first_blocked (take count tasks))
 
 abbrev decreases-loop : tie.decreases-loop
 decreases-loop count tasks i₀ i = count - i

@@ -1,6 +1,6 @@
 -- `faults::head_in_range` meets its contract.
 -- Assumes nothing.
-use Rattle.faults.specs.Faults.{headInRange}
+use Rattle.faults.specs.Faults.{head_in_range}
 use borrow.Author.Rules.{rules}
 use Rattle.faults.proofs.head_in_range.Statement.{statement}
 use Rattle.faults.proofs.head_in_range.Tie as tie
@@ -12,7 +12,7 @@ is-within-requires-2 : tie.Need-is-within-requires-2
 is-within-requires-2 c κs = search rules
 
 returns : tie.Need-returns
-unfolding headInRange
+unfolding head_in_range
 returns c = cc
 
 pub head-in-range-spec : {M : Type 1} → statement M

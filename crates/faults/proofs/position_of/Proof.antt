@@ -8,7 +8,7 @@ use lib.ListN.{length, take, drop}
 use Rattle.faults.specs.Faults.{position_of}
 use Rattle.tasks.specs.declared.Name.{Name}
 use mathlib.Core.Bool.{Bool}
-use Rattle.fields.specs.Bytes.{sameBytes}
+use Rattle.fields.specs.Bytes.{same_bytes}
 use Rattle.tasks.proofs.Arrays.{length-mapped}
 use Rattle.faults.proofs.First.{first_step, first-stop, first-end}
 use Rattle.faults.proofs.position_of.Statement.{statement}
@@ -22,7 +22,7 @@ decreases-loop count name names i₀ i = count - i
 
 -- has this name
 abbrev has : Name → Name → Bool
-has n m = sameBytes n.bytes m.bytes
+has n m = same_bytes n.bytes m.bytes
 
 -- the array's list is as long as its type says
 long : (c : tie.At-loop invariant-loop decreases-loop) → length c.before.args.t2 ≡ 32

@@ -1,6 +1,6 @@
 -- `faults::task_in_range` meets its contract.
 -- Assumes nothing.
-use Rattle.faults.specs.Faults.{taskInRange}
+use Rattle.faults.specs.Faults.{task_in_range}
 use borrow.Author.Rules.{rules}
 use Rattle.faults.proofs.task_in_range.Statement.{statement}
 use Rattle.faults.proofs.task_in_range.Tie as tie
@@ -21,7 +21,7 @@ is-within-requires-5 : tie.Need-is-within-requires-5
 is-within-requires-5 c κs = search rules
 
 returns : tie.Need-returns
-unfolding taskInRange
+unfolding task_in_range
 returns c = cc
 
 pub task-in-range-spec : {M : Type 1} → statement M

@@ -6,13 +6,13 @@ use native.Mathlib.Omega.{arith}
 use borrow.Author.Rules.{rules}
 use lib.ListN.{length, drop}
 use borrow.Author.Tests.{not-true, not-false}
-use Rattle.fields.specs.Bytes.{everyByte, isNameByte}
+use Rattle.fields.specs.Bytes.{every_byte, is_name_byte}
 use Rattle.fields.proofs.Scan.{every-step, every-stop, every-end}
 use Rattle.fields.proofs.all_name_bytes.Statement.{statement}
 use Rattle.fields.proofs.all_name_bytes.Tie as tie
 
 abbrev invariant-loop : tie.invariant-loop
-invariant-loop f i₀ i = (i ≤ length f) × (everyByte isNameByte (drop i f) ≡ everyByte isNameByte f)
+invariant-loop f i₀ i = (i ≤ length f) × (every_byte is_name_byte (drop i f) ≡ every_byte is_name_byte f)
 
 abbrev decreases-loop : tie.decreases-loop
 decreases-loop f i₀ i = length f - i
@@ -29,7 +29,7 @@ is-name-byte-requires c κs = tt
 returns : tie.Need-returns invariant-loop decreases-loop
 returns c =
     let at = c.before.before.before.before in
-    cc (every-stop isNameByte at.before.before.args.f.now at.loop.i (search rules) (sym c.before.is-name-byte.ensures ∙ not-true _ c.if1.true))
+    cc (every-stop is_name_byte at.before.before.args.f.now at.loop.i (search rules) (sym c.before.is-name-byte.ensures ∙ not-true _ c.if1.true))
 
 add-i : tie.Need-overflow-add-i invariant-loop decreases-loop
 add-i c = omega arith
@@ -40,7 +40,7 @@ loop-less c = omega arith
 loop-again : tie.Need-loop-preserved invariant-loop decreases-loop
 loop-again c =
     let at = c.before.before.before.before in
-    (omega arith, cc (every-step isNameByte at.before.before.args.f.now at.loop.i (search rules) (sym c.before.is-name-byte.ensures ∙ not-false _ c.if1.false)))
+    (omega arith, cc (every-step is_name_byte at.before.before.args.f.now at.loop.i (search rules) (sym c.before.is-name-byte.ensures ∙ not-false _ c.if1.false)))
 
 returns-2 : tie.Need-returns-2 invariant-loop decreases-loop
 returns-2 c = every-end _ _ _ c.loop-test.false ∙ c.before.loop.invariant.1

@@ -4,10 +4,10 @@ use mathlib.Core.Path.{◌≡◌, ap, ◌∙◌}
 use native.Mathlib.Omega.{arith}
 use lib.ListN.{get_or}
 use borrow.Author.Rules.{rules}
-use Rattle.demand.specs.Least.{toldOf}
+use Rattle.demand.specs.Least.{told_of}
 use Rattle.board.proofs.LentLaws.{lent-ranged}
-use Rattle.verdicts.specs.Verdicts.{hasResponse}
-use Rattle.growth.specs.Tried.{scaledLeast}
+use Rattle.verdicts.specs.Verdicts.{has_response}
+use Rattle.growth.specs.Tried.{scaled_least}
 use Rattle.growth.proofs.TriedLaws.{told-answers, tried-handed, tried-least, tried-at-limit, started-in, started-out}
 use Rattle.growth.proofs.answers.Statement.{statement}
 use Rattle.growth.proofs.answers.Tie as tie
@@ -68,9 +68,9 @@ returns-2 c =
     let a = s.args in
     let own = c.before.before.before.before.before.before.before.before.before.before.before.scaled-work.ensures in
     let weights = c.before.before.before.before.before.before.before.before.before.before.before.before.before.scaled-weights.ensures in
-    let is : toldOf c.least.result ≡ scaledLeast a.board.now (λ (j : ℕ). get_or a.row.now j 0) a.access a.i a.k =
+    let is : told_of c.least.result ≡ scaled_least a.board.now (λ (j : ℕ). get_or a.row.now j 0) a.access a.i a.k =
     c.least.ensures.0 ∙ rw (own, weights) (tried-least _ _ _ _ p.2 p.3 p.1) in
-    (told-answers c.least.result ∙ ap hasResponse is, started-out _ _ _ _ p.2 p.3 p.1 _ _ (rw (own, weights) at c.least.ensures.1))
+    (told-answers c.least.result ∙ ap has_response is, started-out _ _ _ _ p.2 p.3 p.1 _ _ (rw (own, weights) at c.least.ensures.1))
 
 pub answers-spec : {M : Type 1} → statement M
 answers-spec =

@@ -4,7 +4,7 @@ use Prim.Native.Nat.{ℕ, ◌+◌, ◌-◌, ◌/◌, ◌≤◌}
 use mathlib.Core.Path.{◌≡◌, sym, ◌∙◌}
 use native.Mathlib.Omega.{arith}
 use Rattle.response.proofs.CountLaws.{handed-firsts}
-use Rattle.growth.specs.Tried.{answersBy, StartedAt}
+use Rattle.growth.specs.Tried.{answers_by, StartedAt}
 use Rattle.growth.proofs.BoundLaws.{Spans, bounds-none, bounds-all, spans-none}
 use Rattle.growth.proofs.TriedLaws.{stretches-less, tried-handed, tried-descends, started-ones, started-more}
 use Rattle.growth.proofs.bisected.Statement.{statement}
@@ -12,7 +12,7 @@ use Rattle.growth.proofs.bisected.Tie as tie
 
 abbrev invariant-loop : tie.invariant-loop
 invariant-loop board i row access most counts₀ ends₀ low₀ high₀ counts ends low high =
-    Spans (answersBy board row access i) most low high × ((k : ℕ) → low ≤ k → 1 ≤ k → k ≤ most → StartedAt board row access i k counts ends)
+    Spans (answers_by board row access i) most low high × ((k : ℕ) → low ≤ k → 1 ≤ k → k ≤ most → StartedAt board row access i k counts ends)
 
 abbrev decreases-loop : tie.decreases-loop
 decreases-loop board i row access most counts₀ ends₀ low₀ high₀ counts ends low high = high - low

@@ -2,17 +2,17 @@
 use Prim.Native.Nat.{ℕ, ◌+◌, ◌-◌, ◌*◌, ◌≤◌}
 use mathlib.Core.Path.{◌≡◌, sym, ap, ◌∙◌}
 use native.Mathlib.Omega.{arith}
-use Rattle.demand.specs.Demand.{demandOf, workOf}
-use Rattle.demand.specs.Terms.{termIn}
+use Rattle.demand.specs.Demand.{demand_of, work_of}
+use Rattle.demand.specs.Terms.{term_in}
 use Rattle.demand.proofs.DemandLaws.{demand-none, demand-next, work-bound}
-use Rattle.board.specs.Board.{limitOn}
+use Rattle.board.specs.Board.{limit_on}
 use Rattle.board.proofs.LentLaws.{lent-few, lent-long}
 use Rattle.growth.proofs.demand_at_limit.Statement.{statement}
 use Rattle.growth.proofs.demand_at_limit.Tie as tie
 
 abbrev invariant-loop : tie.invariant-loop
 invariant-loop board own weights i limit demand₀ j₀ demand j =
-    (j ≤ i) × (demand ≡ demandOf own (termIn board weights) j (limitOn board i)) × (demand ≤ own + j * 250000000000000000)
+    (j ≤ i) × (demand ≡ demand_of own (term_in board weights) j (limit_on board i)) × (demand ≤ own + j * 250000000000000000)
 
 abbrev decreases-loop : tie.decreases-loop
 decreases-loop board own weights i limit demand₀ j₀ demand j = i - j
@@ -64,7 +64,7 @@ shared-slice-read-demand c = omega (arith, c.before.before.before.before.before.
 
 -- what the term at j asks for
 abbrev work : tie.After-shared-slice-known4 invariant-loop decreases-loop → ℕ
-work c = workOf (limitOn c.before.before.before.before.before.before.args.board.now c.before.before.before.before.before.before.args.i) (termIn c.before.before.before.before.before.before.args.board.now c.before.before.before.before.before.before.args.weights.now c.before.before.before.before.loop.j)
+work c = work_of (limit_on c.before.before.before.before.before.before.args.board.now c.before.before.before.before.before.before.args.i) (term_in c.before.before.before.before.before.before.args.board.now c.before.before.before.before.before.before.args.weights.now c.before.before.before.before.loop.j)
 
 bounded : (c : tie.After-shared-slice-known4 invariant-loop decreases-loop) → work c ≤ 250000000000000000
 bounded c = let p = c.before.before.before.before.before.before.requires.1 in work-bound _ _ (p.ranged c.before.before.before.before.loop.j c.before.before.before.loop-test.true) p.time

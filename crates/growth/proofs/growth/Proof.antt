@@ -9,12 +9,12 @@ use Rattle.board.specs.Board.{Lent}
 use Rattle.board.proofs.LentLaws.{lent-fewer}
 use Rattle.growth.specs.Growth.{Bounds}
 use Rattle.growth.proofs.TriedLaws.{stretches-less}
-use Rattle.growth.proofs.GrowthLaws.{verdictFrom, readable-table, accessed, blockers-same, tasks-none, tasks-next, tasks-left, growth-is}
+use Rattle.growth.proofs.GrowthLaws.{verdict_from, readable-table, accessed, blockers-same, tasks-none, tasks-next, tasks-left, growth-is}
 use Rattle.growth.proofs.growth.Statement.{statement}
 use Rattle.growth.proofs.growth.Tie as tie
 
 abbrev invariant-loop : tie.invariant-loop
-invariant-loop method table count accesses listed board left₀ i₀ left i = (i ≤ count) × Bounds (verdictFrom table method left₀ i) left₀ left
+invariant-loop method table count accesses listed board left₀ i₀ left i = (i ≤ count) × Bounds (verdict_from table method left₀ i) left₀ left
 
 abbrev decreases-loop : tie.decreases-loop
 decreases-loop method table count accesses listed board left₀ i₀ left i = i
@@ -81,7 +81,7 @@ loop-again c =
     let table = s.args.t1 in
     let here : h.loop.i - 1 < table.count = omega (arith, h.loop.invariant.0, c.before.before.before.before.before.loop-test.true) in
     let e : h.loop.i ≡ (h.loop.i - 1) + 1 = omega (arith, c.before.before.before.before.before.loop-test.true) in
-    let below = subst (λ (n : ℕ). Bounds (verdictFrom table s.args.method c.before.before.before.before.before.before.before.fits-up-to.result n) c.before.before.before.before.before.before.before.fits-up-to.result h.loop.left) e h.loop.invariant.1 in (
+    let below = subst (λ (n : ℕ). Bounds (verdict_from table s.args.method c.before.before.before.before.before.before.before.fits-up-to.result n) c.before.before.before.before.before.before.before.fits-up-to.result h.loop.left) e h.loop.invariant.1 in (
       omega arith,
       tasks-next table s.args.method _ _ _ c.before.before.before.before.before.before.before.before.before.fill.ensures (h.loop.i - 1) _ _ here here s.requires.0 below
           (rw (c.before.before.plain-access.ensures, blockers-same table (h.loop.i - 1) here) at c.by-method.ensures),

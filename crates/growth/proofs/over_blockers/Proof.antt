@@ -7,9 +7,9 @@ use native.Mathlib.Omega.{arith}
 use lib.ListN.{length, take}
 use borrow.Author.Rules.{rules}
 use Rattle.accesses.specs.Accesses.{blocking}
-use Rattle.verdicts.specs.Verdicts.{hasResponse}
+use Rattle.verdicts.specs.Verdicts.{has_response}
 use Rattle.growth.specs.Growth.{Bounds}
-use Rattle.growth.specs.Tried.{scaledLatest}
+use Rattle.growth.specs.Tried.{scaled_latest}
 use Rattle.growth.proofs.TriedLaws.{stretches-less}
 use Rattle.growth.proofs.OverLaws.{over-start, over-one, over-other, over_plain, over-some}
 use Rattle.growth.proofs.over_blockers.Statement.{statement}
@@ -18,7 +18,7 @@ use Rattle.growth.proofs.over_blockers.Tie as tie
 abbrev invariant-loop : tie.invariant-loop
 invariant-loop board method i listed plain most accesses row left₀ blocked₀ n₀ left blocked n =
     (n ≤ listed) × (blocked ≤ n)
-    × (Bounds (λ k. hasResponse (scaledLatest board (blocking i (take n accesses)) method i k)) most left × (blocked ≡ length (blocking i (take n accesses))))
+    × (Bounds (λ k. has_response (scaled_latest board (blocking i (take n accesses)) method i k)) most left × (blocked ≡ length (blocking i (take n accesses))))
 
 abbrev decreases-loop : tie.decreases-loop
 decreases-loop board method i listed plain most accesses row left₀ blocked₀ n₀ left blocked n = listed - n

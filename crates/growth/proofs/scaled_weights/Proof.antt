@@ -5,14 +5,14 @@ use native.Mathlib.Omega.{arith}
 use lib.ListN.{get_or}
 use Rattle.demand.specs.Positions.{front}
 use Rattle.demand.proofs.FrontLaws.{front-none, front-next}
-use Rattle.board.specs.Board.{brtOn}
+use Rattle.board.specs.Board.{brt_on}
 use Rattle.board.proofs.LentLaws.{lent-few, lent-long, lent-brt, lent-ranged}
-use Rattle.growth.specs.Tried.{scaledWeight}
+use Rattle.growth.specs.Tried.{scaled_weight}
 use Rattle.growth.proofs.scaled_weights.Statement.{statement}
 use Rattle.growth.proofs.scaled_weights.Tie as tie
 
 abbrev invariant-loop : tie.invariant-loop
-invariant-loop board i row k brt all₀ j₀ all j = (j ≤ i) × (all ≡ front 0 (scaledWeight board (λ (j : ℕ). get_or row j 0) k) j)
+invariant-loop board i row k brt all₀ j₀ all j = (j ≤ i) × (all ≡ front 0 (scaled_weight board (λ (j : ℕ). get_or row j 0) k) j)
 
 abbrev decreases-loop : tie.decreases-loop
 decreases-loop board i row k brt all₀ j₀ all j = i - j
@@ -66,9 +66,9 @@ loop-again c =
     let a = c.before.before.before.before.before.before.before.before.before.args in
     let l = c.before.before.before.before.loop-test.true in
     let few = lent-few c.before.before.before.before.before.before.before.before.before.requires.0.lent in
-    let value = c.weight.ensures ∙ ap (λ (w : ℕ). w + brtOn a.board.now * get_or a.row.now h.loop.j 0) c.before.before.scaled-work.ensures in (
+    let value = c.weight.ensures ∙ ap (λ (w : ℕ). w + brt_on a.board.now * get_or a.row.now h.loop.j 0) c.before.before.scaled-work.ensures in (
       omega (arith, l),
-      rw h.loop.invariant.1 (front-next 0 (scaledWeight a.board.now (λ (j : ℕ). get_or a.row.now j 0) a.k) h.loop.j _ (omega (arith, l)) value),
+      rw h.loop.invariant.1 (front-next 0 (scaled_weight a.board.now (λ (j : ℕ). get_or a.row.now j 0) a.k) h.loop.j _ (omega (arith, l)) value),
     )
 
 returns : tie.Need-returns invariant-loop decreases-loop

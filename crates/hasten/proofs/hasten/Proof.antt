@@ -1,10 +1,10 @@
 -- `demand::hasten` meets its contract: the time that the loop has come to is below every solution. Assumes nothing.
 use Prim.Native.Nat.{suc, ◌-◌, ◌≤◌}
 use native.Mathlib.Omega.{arith}
-use Rattle.demand.specs.Demand.{demandOf}
+use Rattle.demand.specs.Demand.{demand_of}
 use Rattle.demand.specs.Least.{Reached}
 use Rattle.demand.proofs.LeastLaws.{found, past}
-use Rattle.demand.specs.Terms.{termIn}
+use Rattle.demand.specs.Terms.{term_in}
 use Rattle.demand.proofs.DemandLaws.{handed-for}
 use Rattle.demand.proofs.HastenLaws.{full}
 use Rattle.demand.proofs.hasten.Statement.{statement}
@@ -12,7 +12,7 @@ use Rattle.demand.proofs.hasten.Tie as tie
 
 abbrev invariant-loop : tie.invariant-loop
 invariant-loop own releases weights n limit start r₀ reach₀ r reach =
-    Reached (demandOf own (termIn releases weights) n) r × (reach ≤ 17200000000000000000)
+    Reached (demand_of own (term_in releases weights) n) r × (reach ≤ 17200000000000000000)
 
 abbrev decreases-loop : tie.decreases-loop
 decreases-loop own releases weights n limit start r₀ reach₀ r reach = suc limit - r

@@ -3,14 +3,14 @@ use Prim.Native.Nat.{◌-◌, ◌≤◌}
 use mathlib.Core.Path.{◌≡◌}
 use native.Mathlib.Omega.{arith}
 use Rattle.demand.proofs.DemandLaws.{demand-mono}
-use Rattle.demand.specs.Terms.{termIn}
+use Rattle.demand.specs.Terms.{term_in}
 use Rattle.demand.proofs.HastenLaws.{Turning, turning-none, turning-next, turned_plain, turned-later}
 use Rattle.demand.proofs.turn_at.Statement.{statement}
 use Rattle.demand.proofs.turn_at.Tie as tie
 
 abbrev invariant-loop : tie.invariant-loop
 invariant-loop own releases weights n limit r reach demand₀ counted₀ extra₀ left₀ i₀ demand counted extra left i =
-    (i ≤ n) × Turning own (termIn releases weights) r i demand counted extra left
+    (i ≤ n) × Turning own (term_in releases weights) r i demand counted extra left
 
 abbrev decreases-loop : tie.decreases-loop
 decreases-loop own releases weights n limit r reach demand₀ counted₀ extra₀ left₀ i₀ demand counted extra left i = n - i

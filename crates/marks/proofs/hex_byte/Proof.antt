@@ -1,16 +1,16 @@
 -- `marks::hex_byte` meets its contract. Assumes nothing.
 use borrow.Author.Rules.{rules}
 use borrow.Author.Tests.{lt-ltb, le-ltb}
-use Rattle.marks.specs.Marks.{hexByte}
+use Rattle.marks.specs.Marks.{hex_byte}
 use Rattle.marks.proofs.hex_byte.Statement.{statement}
 use Rattle.marks.proofs.hex_byte.Tie as tie
 
 returns : tie.Need-returns
-unfolding hexByte
+unfolding hex_byte
 returns c = rw (lt-ltb _ 10 c.if1.true)
 
 returns-2 : tie.Need-returns-2
-unfolding hexByte
+unfolding hex_byte
 returns-2 c = rw (le-ltb _ 10 c.if1.false)
 
 pub hex-byte-spec : {M : Type 1} → statement M

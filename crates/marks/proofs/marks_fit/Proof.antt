@@ -1,11 +1,11 @@
 -- `marks::marks_fit` meets its contract: it looks at the four words as the definition does. Assumes nothing.
 use borrow.Author.Rules.{rules}
-use Rattle.marks.specs.Marks.{marksFit}
+use Rattle.marks.specs.Marks.{marks_fit}
 use Rattle.marks.proofs.marks_fit.Statement.{statement}
 use Rattle.marks.proofs.marks_fit.Tie as tie
 
 returns : tie.Need-returns
-unfolding marksFit
+unfolding marks_fit
 returns c =
     let words = c.before.before.before.before.before.before.before.before.words_of.ensures in
     rw (

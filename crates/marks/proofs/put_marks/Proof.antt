@@ -5,13 +5,13 @@ use native.Mathlib.Omega.{arith}
 use borrow.Author.Rules.{rules}
 use lib.ListN.{length}
 use Rattle.writer.proofs.Writes.{◌then◌, reading}
-use Rattle.marks.specs.Marks.{bitsIn}
+use Rattle.marks.specs.Marks.{bits_in}
 use Rattle.marks.proofs.Digits.{marks-cut, words_long}
 use Rattle.marks.proofs.put_marks.Statement.{statement}
 use Rattle.marks.proofs.put_marks.Tie as tie
 
 -- all digits together fit
-fits : (c : tie.Start) → c.args.at + (bitsIn c.args.sets 3 / 4 + bitsIn c.args.sets 2 / 4 + bitsIn c.args.sets 1 / 4 + bitsIn c.args.sets 0 / 4) ≤ length c.args.out.now
+fits : (c : tie.Start) → c.args.at + (bits_in c.args.sets 3 / 4 + bits_in c.args.sets 2 / 4 + bits_in c.args.sets 1 / 4 + bits_in c.args.sets 0 / 4) ≤ length c.args.out.now
 fits c = rw (words_long c.args.sets (search rules)) (search rules)
 
 put-word-requires : tie.Need-put-word-requires
@@ -24,7 +24,7 @@ put-word-requires-3 : tie.Need-put-word-requires-3
 put-word-requires-3 c κs = omega (arith, fits c.before.before.before.before.before.before.before.before.before.before.before.before.before.before)
 
 -- where the digits of the lowest word start
-below-w1 : (c : tie.After-put-word3) → c.put-word3.result ≡ c.before.before.before.before.before.before.before.before.before.before.before.before.before.before.before.args.at + bitsIn c.before.before.before.before.before.before.before.before.before.before.before.before.before.before.before.args.sets 3 / 4 + bitsIn c.before.before.before.before.before.before.before.before.before.before.before.before.before.before.before.args.sets 2 / 4 + bitsIn c.before.before.before.before.before.before.before.before.before.before.before.before.before.before.before.args.sets 1 / 4
+below-w1 : (c : tie.After-put-word3) → c.put-word3.result ≡ c.before.before.before.before.before.before.before.before.before.before.before.before.before.before.before.args.at + bits_in c.before.before.before.before.before.before.before.before.before.before.before.before.before.before.before.args.sets 3 / 4 + bits_in c.before.before.before.before.before.before.before.before.before.before.before.before.before.before.before.args.sets 2 / 4 + bits_in c.before.before.before.before.before.before.before.before.before.before.before.before.before.before.before.args.sets 1 / 4
 below-w1 c = rw (c.put-word3.ensures.1, c.before.before.before.before.before.put-word2.ensures.1, c.before.before.before.before.before.before.before.before.before.before.put_word.ensures.1, c.before.bits-in3.ensures.0, c.before.before.before.before.before.before.bits-in2.ensures.0, c.before.before.before.before.before.before.before.before.before.before.before.bits_in.ensures.0)
 
 put-word-requires-4 : tie.Need-put-word-requires-4

@@ -7,20 +7,20 @@ use borrow.Author.Rules.{rules}
 use lib.ListN.{length}
 use Rattle.writer.specs.Wrote.{Wrote}
 use Rattle.writer.proofs.Writes.{◌then◌, nothing, reading}
-use Rattle.marks.specs.Marks.{hexDigits}
+use Rattle.marks.specs.Marks.{hex_digits}
 use Rattle.marks.proofs.Digits.{digits_long, digits_more}
 use Rattle.marks.proofs.put_word.Statement.{statement}
 use Rattle.marks.proofs.put_word.Tie as tie
 
 abbrev invariant-loop : tie.invariant-loop
 invariant-loop out₀ at word digits next₀ below₀ out next below =
-    Wrote out₀ at (hexDigits (digits - below) (word / 2 ^ (4 * below))) out next × (below ≤ digits) × (length out ≡ length out₀)
+    Wrote out₀ at (hex_digits (digits - below) (word / 2 ^ (4 * below))) out next × (below ≤ digits) × (length out ≡ length out₀)
 
 abbrev decreases-loop : tie.decreases-loop
 decreases-loop out₀ at word digits next₀ below₀ out next below = below
 
 loop-holds : tie.Need-loop-init invariant-loop decreases-loop
-unfolding hexDigits
+unfolding hex_digits
 loop-holds c = (rw sub_self (nothing _ _), omega arith, refl)
 
 put-byte-requires : tie.Need-put-byte-requires invariant-loop decreases-loop

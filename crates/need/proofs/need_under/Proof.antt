@@ -3,15 +3,15 @@ use Prim.Native.Nat.{◌-◌, ◌≤◌}
 use mathlib.Core.Path.{◌≡◌, ap₂, ◌∙◌}
 use native.Mathlib.Omega.{arith}
 use borrow.Author.Rules.{rules}
-use Rattle.analysis.specs.Analysis.{leastOnUnder}
-use Rattle.need.specs.Needs.{needWith, largerNeed, neededOn}
+use Rattle.analysis.specs.Analysis.{least_on_under}
+use Rattle.need.specs.Needs.{need_with, larger_need, needed_on}
 use Rattle.need.proofs.NeedLaws.{so_far, largest-first, largest_step, largest-end}
 use Rattle.need.proofs.need_under.Statement.{statement}
 use Rattle.need.proofs.need_under.Tie as tie
 
 abbrev invariant-loop : tie.invariant-loop
 invariant-loop board method i blockers row need₀ count n₀ need n =
-    (1 ≤ n) × (n ≤ count) × (need ≡ so_far (needWith (λ a. leastOnUnder board a method i 250000000) method) blockers.accesses n)
+    (1 ≤ n) × (n ≤ count) × (need ≡ so_far (need_with (λ a. least_on_under board a method i 250000000) method) blockers.accesses n)
 
 abbrev decreases-loop : tie.decreases-loop
 decreases-loop board method i blockers row need₀ count n₀ need n = count - n
@@ -32,11 +32,11 @@ loop-again c =
     let l = inside.loop-test.true in (
       omega arith,
       omega arith,
-      c.larger.ensures ∙ ap₂ largerNeed h.loop.invariant.2 next.need-while2.ensures ∙ largest_step _ s.args.t4.accesses p.long h.loop.n (omega (arith, p.few)),
+      c.larger.ensures ∙ ap₂ larger_need h.loop.invariant.2 next.need-while2.ensures ∙ largest_step _ s.args.t4.accesses p.long h.loop.n (omega (arith, p.few)),
     )
 
 returns : tie.Need-returns invariant-loop decreases-loop
-unfolding neededOn
+unfolding needed_on
 returns c =
     let h = c.before in
     let s = h.before.before.before.before.before.before in

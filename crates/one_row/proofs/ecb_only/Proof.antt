@@ -8,7 +8,7 @@ use Rattle.sets.specs.declared.CacheSet.{CacheSet}
 use Rattle.sets.specs.Sets.{size}
 use Rattle.sets.specs.Words.{members}
 use Rattle.board.proofs.LentLaws.{lent-few, lent-long}
-use Rattle.costs.specs.Costs.{noVictim}
+use Rattle.costs.specs.Costs.{no_victim}
 use Rattle.one_row.specs.Row.{Charged}
 use Rattle.one_row.proofs.RowLaws.{charged-none, count-in-front}
 use Rattle.one_row.proofs.ecb_only.Statement.{statement}
@@ -29,7 +29,7 @@ loop-again c =
     let own = c.size.ensures.0 ∙ ap (λ (e : CacheSet). size (members e)) c.before.at.ensures in (
       omega arith,
       count-in-front 1 s.args.i h.loop.j j (omega arith) (omega arith) (omega arith) h.loop.invariant.1 _
-          (ap noVictim (get_or-set_same h.loop.row j _ 0 (omega (arith, h.loop.invariant.1.long)) ∙ own)),
+          (ap no_victim (get_or-set_same h.loop.row j _ 0 (omega (arith, h.loop.invariant.1.long)) ∙ own)),
     )
 
 returns : tie.Need-returns invariant-loop decreases-loop

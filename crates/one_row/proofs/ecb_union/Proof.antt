@@ -5,9 +5,9 @@ use mathlib.Core.Path.{◌≡◌, sym, ap, ◌∙◌}
 use borrow.Author.Rules.{rules}
 use Rattle.sets.specs.Words.{members}
 use Rattle.demand.specs.Positions.{hp}
-use Rattle.board.specs.Board.{ecbOn}
+use Rattle.board.specs.Board.{ecb_on}
 use Rattle.board.proofs.LentLaws.{lent-few}
-use Rattle.costs.specs.Gather.{unionOf}
+use Rattle.costs.specs.Gather.{union_of}
 use Rattle.one_row.proofs.EvictedLaws.{Evicted, evicted-none, evicted-bounds, evicted-next}
 use Rattle.one_row.proofs.ecb_union.Statement.{statement}
 use Rattle.one_row.proofs.ecb_union.Tie as tie
@@ -23,7 +23,7 @@ loop-holds c = let s = c.before.before in evicted-none s.args.i (omega (arith, l
 
 -- the ECBs down to the pre-empting task
 ecbs-down : (c : tie.After-at invariant-loop decreases-loop) → let h = c.before.before.before in let a = h.before.before.before.args in
-    members c.at.result ≡ unionOf (ecbOn a.board.now) (hp (h.loop.j - 1 + 1))
+    members c.at.result ≡ union_of (ecb_on a.board.now) (hp (h.loop.j - 1 + 1))
 ecbs-down c =
     let h = c.before.before.before in
     ap members c.at.ensures ∙ h.before.evictors.ensures.each (h.loop.j - 1) (omega (arith, h.loop.invariant.above))

@@ -7,9 +7,9 @@ use borrow.Author.Rules.{rules}
 use Rattle.sets.specs.Words.{members}
 use Rattle.sets.proofs.WordLaws.{members-empty}
 use Rattle.demand.specs.Positions.{hp}
-use Rattle.board.specs.Board.{ecbOn}
+use Rattle.board.specs.Board.{ecb_on}
 use Rattle.board.proofs.LentLaws.{lent-few, lent-long}
-use Rattle.costs.specs.Gather.{unionOf}
+use Rattle.costs.specs.Gather.{union_of}
 use Rattle.costs.proofs.UnionLaws.{union-none, union-next}
 use Rattle.one_row.specs.Row.{Evictors}
 use Rattle.one_row.proofs.RowLaws.{evictors-next}
@@ -17,14 +17,14 @@ use Rattle.one_row.proofs.evictors.Statement.{statement}
 use Rattle.one_row.proofs.evictors.Tie as tie
 
 abbrev invariant-loop : tie.invariant-loop
-invariant-loop board i unions₀ above₀ j₀ unions above j = (j ≤ i) × Evictors board j unions × (members above ≡ unionOf (ecbOn board) (hp j))
+invariant-loop board i unions₀ above₀ j₀ unions above j = (j ≤ i) × Evictors board j unions × (members above ≡ union_of (ecb_on board) (hp j))
 
 abbrev decreases-loop : tie.decreases-loop
 decreases-loop board i unions₀ above₀ j₀ unions above j = i - j
 
 loop-holds : tie.Need-loop-init invariant-loop decreases-loop
 loop-holds c =
-    (omega arith, record { long = refl; each = λ j l. absurd (omega arith) }, members-empty ∙ union-none (ecbOn c.before.args.board.now) 0)
+    (omega arith, record { long = refl; each = λ j l. absurd (omega arith) }, members-empty ∙ union-none (ecb_on c.before.args.board.now) 0)
 
 loop-again : tie.Need-loop-preserved invariant-loop decreases-loop
 loop-again c =
@@ -32,7 +32,7 @@ loop-again c =
     let h = all.before.before.before in
     let s = h.before.before in
     let few = lent-few s.requires in
-    let carried = all.union.ensures ∙ union-next (ecbOn s.args.board.now) 0 h.loop.j _ _ (omega arith) h.loop.invariant.2 (ap members all.before.at.ensures) in
+    let carried = all.union.ensures ∙ union-next (ecb_on s.args.board.now) 0 h.loop.j _ _ (omega arith) h.loop.invariant.2 (ap members all.before.at.ensures) in
     (omega arith, rw c.before.store.ensures (evictors-next h.loop.j _ (omega arith) h.loop.invariant.1 carried), carried)
 
 returns : tie.Need-returns invariant-loop decreases-loop

@@ -8,10 +8,10 @@ use Rattle.sets.specs.declared.CacheSet.{CacheSet}
 use Rattle.sets.specs.Sets.{size}
 use Rattle.sets.specs.Words.{members}
 use Rattle.demand.specs.Positions.{between}
-use Rattle.board.specs.Board.{ucbOn}
+use Rattle.board.specs.Board.{ucb_on}
 use Rattle.board.proofs.LentLaws.{lent-few, lent-long}
 use Rattle.costs.specs.declared.Charge.TheVariants.{Victim}
-use Rattle.costs.specs.Gather.{largestFrom}
+use Rattle.costs.specs.Gather.{largest_from}
 use Rattle.costs.proofs.HitLaws.{hit-none, hit-front, largest-from}
 use Rattle.costs.proofs.ListedLaws.{hit_same}
 use Rattle.one_row.specs.Row.{Charged}
@@ -21,7 +21,7 @@ use Rattle.one_row.proofs.ucb_only.Tie as tie
 
 abbrev invariant-loop : tie.invariant-loop
 invariant-loop board i row₀ most₀ j₀ row most j =
-    (j ≤ i) × Charged board 2 i j row × (most ≡ largestFrom (j + 1) (λ k. size (ucbOn board k)) (between (j + 1) (i + 1)))
+    (j ≤ i) × Charged board 2 i j row × (most ≡ largest_from (j + 1) (λ k. size (ucb_on board k)) (between (j + 1) (i + 1)))
 
 abbrev decreases-loop : tie.decreases-loop
 decreases-loop board i row₀ most₀ j₀ row most j = j
@@ -29,7 +29,7 @@ decreases-loop board i row₀ most₀ j₀ row most j = j
 loop-holds : tie.Need-loop-init invariant-loop decreases-loop
 loop-holds c =
     let s = c.before.before in
-    (omega arith, charged-none 2 _ s.requires.1, c.none.ensures ∙ hit-none (λ k. size (ucbOn s.args.board.now k)) (s.args.i + 1))
+    (omega arith, charged-none 2 _ s.requires.1, c.none.ensures ∙ hit-none (λ k. size (ucb_on s.args.board.now k)) (s.args.i + 1))
 
 loop-again : tie.Need-loop-preserved invariant-loop decreases-loop
 loop-again c =
@@ -40,9 +40,9 @@ loop-again c =
     let few = lent-few s.requires.0 in
     let j = h.loop.j - 1 in
     let last : j + 1 ≡ h.loop.j = omega arith in
-    let F : ℕ → ℕ = λ k. size (ucbOn a.board.now k) in
+    let F : ℕ → ℕ = λ k. size (ucb_on a.board.now k) in
     let own = most.before.size.ensures.0 ∙ ap (λ (u : CacheSet). size (members u)) most.before.before.at.ensures in
-    let carried : most.larger.result ≡ largestFrom (j + 1) F (between (j + 1) (a.i + 1)) =
+    let carried : most.larger.result ≡ largest_from (j + 1) F (between (j + 1) (a.i + 1)) =
     rw last (most.larger.ensures ∙ hit-front F h.loop.j (a.i + 1) _ _ (omega arith) own h.loop.invariant.2) in (
       omega arith,
       rw c.keep-hit.ensures

@@ -9,10 +9,10 @@ use Rattle.sets.specs.Sets.{◌∩◌, size}
 use Rattle.sets.specs.Words.{members}
 use Rattle.sets.proofs.WordLaws.{members-empty}
 use Rattle.demand.specs.Positions.{between}
-use Rattle.board.specs.Board.{ucbOn}
+use Rattle.board.specs.Board.{ucb_on}
 use Rattle.board.proofs.LentLaws.{lent-few, lent-long}
-use Rattle.costs.specs.Gather.{unionOf}
-use Rattle.costs.specs.Costs.{noVictim}
+use Rattle.costs.specs.Gather.{union_of}
+use Rattle.costs.specs.Costs.{no_victim}
 use Rattle.costs.proofs.UnionLaws.{union-none, union-front}
 use Rattle.one_row.specs.Row.{Charged}
 use Rattle.one_row.proofs.RowLaws.{charged-none, count-in-front}
@@ -21,7 +21,7 @@ use Rattle.one_row.proofs.ucb_union.Tie as tie
 
 abbrev invariant-loop : tie.invariant-loop
 invariant-loop board i row₀ all₀ j₀ row all j =
-    (j ≤ i) × Charged board 3 i j row × (members all ≡ unionOf (ucbOn board) (between (j + 1) (i + 1)))
+    (j ≤ i) × Charged board 3 i j row × (members all ≡ union_of (ucb_on board) (between (j + 1) (i + 1)))
 
 abbrev decreases-loop : tie.decreases-loop
 decreases-loop board i row₀ all₀ j₀ row all j = j
@@ -29,7 +29,7 @@ decreases-loop board i row₀ all₀ j₀ row all j = j
 loop-holds : tie.Need-loop-init invariant-loop decreases-loop
 loop-holds c =
     let s = c.before in
-    (omega arith, charged-none 3 _ s.requires.1, members-empty ∙ union-none (ucbOn s.args.board.now) (s.args.i + 1))
+    (omega arith, charged-none 3 _ s.requires.1, members-empty ∙ union-none (ucb_on s.args.board.now) (s.args.i + 1))
 
 loop-again : tie.Need-loop-preserved invariant-loop decreases-loop
 loop-again c =
@@ -41,12 +41,12 @@ loop-again c =
     let few = lent-few s.requires.0 in
     let j = h.loop.j - 1 in
     let last : j + 1 ≡ h.loop.j = omega arith in
-    let carried : members all.union.result ≡ unionOf (ucbOn a.board.now) (between (j + 1) (a.i + 1)) =
-    rw last (all.union.ensures ∙ union-front (ucbOn a.board.now) h.loop.j (a.i + 1) _ _ (omega arith) (ap members all.before.at.ensures) h.loop.invariant.2) in
+    let carried : members all.union.result ≡ union_of (ucb_on a.board.now) (between (j + 1) (a.i + 1)) =
+    rw last (all.union.ensures ∙ union-front (ucb_on a.board.now) h.loop.j (a.i + 1) _ _ (omega arith) (ap members all.before.at.ensures) h.loop.invariant.2) in
     let shared = c.size.ensures.0 ∙ ap size (c.before.intersection.ensures ∙ ap₂ ◌∩◌ carried (ap members evictor.at2.ensures)) in (
       omega arith,
       count-in-front 3 a.i h.loop.j j (omega arith) (omega arith) (omega arith) h.loop.invariant.1 _
-          (ap noVictim (get_or-set_same h.loop.row j _ 0 (omega (arith, h.loop.invariant.1.long)) ∙ shared)),
+          (ap no_victim (get_or-set_same h.loop.row j _ 0 (omega (arith, h.loop.invariant.1.long)) ∙ shared)),
       carried,
     )
 

@@ -6,12 +6,12 @@ use native.Mathlib.Numerals.{add-one}
 use native.Mathlib.Omega.{arith}
 use borrow.Author.Rules.{rules}
 use Rattle.crpd.proofs.Rows.{rows-hold}
-use Rattle.parts.specs.Parts.{turns, ticksOf, firstTicks}
+use Rattle.parts.specs.Parts.{turns, ticks_of, first_ticks}
 use Rattle.parts.proofs.answer.Statement.{statement}
 use Rattle.parts.proofs.answer.Tie as tie
 
 abbrev invariant-loop : tie.invariant-loop
-invariant-loop table times first₀ counter₀ first counter = (counter ≤ times) × (first ≡ turns counter 0 (firstTicks table))
+invariant-loop table times first₀ counter₀ first counter = (counter ≤ times) × (first ≡ turns counter 0 (first_ticks table))
 
 abbrev decreases-loop : tie.decreases-loop
 decreases-loop table times first₀ counter₀ first counter = times - counter
@@ -42,7 +42,7 @@ loop-again c =
     let at = c.before.before.before in
     let start = at.before.before.before in
     let held = rows-hold _ _ at.responses.ensures 0 0 (omega arith) start.requires.some in
-    (omega arith, rw add-one (c.ticks.ensures ∙ ap ticksOf held))
+    (omega arith, rw add-one (c.ticks.ensures ∙ ap ticks_of held))
 
 returns : tie.Need-returns invariant-loop decreases-loop
 returns c =

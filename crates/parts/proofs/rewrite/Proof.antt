@@ -5,7 +5,7 @@ use mathlib.Core.Path.{◌≡◌, refl}
 use native.Mathlib.Omega.{arith}
 use lib.ListN.{length}
 use borrow.Author.Rules.{rules}
-use Rattle.table_text.specs.TableText.{tableText}
+use Rattle.table_text.specs.TableText.{table_text}
 use Rattle.crpd.proofs.Tables.{write-given}
 use Rattle.parts.specs.Parts.{Repeated}
 use Rattle.parts.proofs.Turns.{turn_more}
@@ -13,7 +13,7 @@ use Rattle.parts.proofs.rewrite.Statement.{statement}
 use Rattle.parts.proofs.rewrite.Tie as tie
 
 abbrev invariant-loop : tie.invariant-loop
-invariant-loop table times out₀ len₀ counter₀ out len counter = (counter ≤ times) × (length out ≡ length out₀) × Repeated (tableText table) counter out₀ len out
+invariant-loop table times out₀ len₀ counter₀ out len counter = (counter ≤ times) × (length out ≡ length out₀) × Repeated (table_text table) counter out₀ len out
 
 abbrev decreases-loop : tie.decreases-loop
 decreases-loop table times out₀ len₀ counter₀ out len counter = times - counter

@@ -5,7 +5,7 @@ use mathlib.Core.Path.{◌≡◌, refl}
 use native.Mathlib.Omega.{arith}
 use lib.ListN.{length}
 use borrow.Author.Rules.{rules}
-use Rattle.crpd.specs.Operations.{reportIn}
+use Rattle.crpd.specs.Operations.{report_in}
 use Rattle.crpd.proofs.Rows.{reportable, report-is}
 use Rattle.parts.specs.Parts.{Repeated}
 use Rattle.parts.proofs.Turns.{turn_more}
@@ -13,7 +13,7 @@ use Rattle.parts.proofs.write.Statement.{statement}
 use Rattle.parts.proofs.write.Tie as tie
 
 abbrev invariant-loop : tie.invariant-loop
-invariant-loop table times out₀ rows len₀ counter₀ out len counter = (counter ≤ times) × (length out ≡ length out₀) × Repeated (reportIn table) counter out₀ len out
+invariant-loop table times out₀ rows len₀ counter₀ out len counter = (counter ≤ times) × (length out ≡ length out₀) × Repeated (report_in table) counter out₀ len out
 
 abbrev decreases-loop : tie.decreases-loop
 decreases-loop table times out₀ rows len₀ counter₀ out len counter = times - counter

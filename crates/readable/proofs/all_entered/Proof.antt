@@ -5,30 +5,30 @@ use mathlib.Core.Bool.{true}
 use native.Mathlib.Omega.{arith}
 use borrow.Author.Rules.{rules}
 use borrow.Author.Tests.{not-true, not-false}
-use Rattle.readable.specs.Tests.{isEntered, everyBelow}
+use Rattle.readable.specs.Tests.{is_entered, every_below}
 use Rattle.readable.proofs.Places.{every_more, every-not}
 use Rattle.readable.proofs.all_entered.Statement.{statement}
 use Rattle.readable.proofs.all_entered.Tie as tie
 
 abbrev invariant-loop : tie.invariant-loop
-invariant-loop table sets count held n₀ n = (everyBelow n (isEntered table) ≡ true) × (n ≤ 32)
+invariant-loop table sets count held n₀ n = (every_below n (is_entered table) ≡ true) × (n ≤ 32)
 
 abbrev decreases-loop : tie.decreases-loop
 decreases-loop table sets count held n₀ n = 32 - n
 
 loop-holds : tie.Need-loop-init invariant-loop decreases-loop
-unfolding everyBelow
+unfolding every_below
 loop-holds c = (refl, omega arith)
 
 returns : tie.Need-returns invariant-loop decreases-loop
 returns c =
     let at-loop = c.before.before.before.before in
-    every-not 32 (isEntered at-loop.before.args.t1) at-loop.loop.n (search rules) (sym c.before.is-allowed.ensures ∙ not-true _ c.if1.true)
+    every-not 32 (is_entered at-loop.before.args.t1) at-loop.loop.n (search rules) (sym c.before.is-allowed.ensures ∙ not-true _ c.if1.true)
 
 loop-again : tie.Need-loop-preserved invariant-loop decreases-loop
 loop-again c =
     let at-loop = c.before.before.before.before in (
-      every_more at-loop.loop.n (isEntered at-loop.before.args.t1) at-loop.loop.invariant.0 (sym c.before.is-allowed.ensures ∙ not-false _ c.if1.false),
+      every_more at-loop.loop.n (is_entered at-loop.before.args.t1) at-loop.loop.invariant.0 (sym c.before.is-allowed.ensures ∙ not-false _ c.if1.false),
       omega arith,
     )
 

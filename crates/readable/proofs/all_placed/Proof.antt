@@ -9,18 +9,18 @@ use native.Mathlib.Omega.{arith}
 use borrow.Author.Rules.{rules}
 use borrow.Author.Tests.{not-true, not-false}
 use lib.ListN.{length, take, get_or, length-set}
-use Rattle.tasks.specs.Tasks.{nameIn, blank}
+use Rattle.tasks.specs.Tasks.{name_in, blank}
 use Rattle.tasks.proofs.Arrays.{length-mapped}
 use Rattle.tasks.specs.declared.Name.{Name}
-use Rattle.faults.specs.Faults.{taskFault}
-use Rattle.readable.specs.Tests.{isFine, lineOfTask, is_placed, everyBelow}
+use Rattle.faults.specs.Faults.{task_fault}
+use Rattle.readable.specs.Tests.{is_fine, line_of_task, is_placed, every_below}
 use Rattle.readable.proofs.Places.{every_more, every-not, next-placed, vacant-placed, names_more}
 use Rattle.readable.proofs.all_placed.Statement.{statement}
 use Rattle.readable.proofs.all_placed.Tie as tie
 
 abbrev invariant-loop : tie.invariant-loop
 invariant-loop table sets names₀ k₀ names k =
-    (everyBelow k (is_placed table) ≡ true) × (take k names ≡ map nameIn (take k table.tasks)) × (k ≤ 32) × (length names ≡ 32)
+    (every_below k (is_placed table) ≡ true) × (take k names ≡ map name_in (take k table.tasks)) × (k ≤ 32) × (length names ≡ 32)
 
 abbrev decreases-loop : tie.decreases-loop
 decreases-loop table sets names₀ k₀ names k = 32 - k
@@ -32,7 +32,7 @@ long c =
     search (length-mapped, rules)
 
 loop-holds : tie.Need-loop-init invariant-loop decreases-loop
-unfolding everyBelow
+unfolding every_below
 loop-holds c = (refl, refl, omega arith, refl)
 
 -- what was found of the place
@@ -41,7 +41,7 @@ placed c =
     let T = c.before.before.before.before.args.t1 in
     let k = c.before.before.before.loop.k in
     ⊎_elim
-    (λ w. w.2 ∙ w.1.ensures ∙ ap (λ (l : List Name). isFine (taskFault false k l (lineOfTask T.sets (get_or T.tasks k blank)))) c.before.before.before.loop.invariant.1 ∙ next-placed T k w.0.taken)
+    (λ w. w.2 ∙ w.1.ensures ∙ ap (λ (l : List Name). is_fine (task_fault false k l (line_of_task T.sets (get_or T.tasks k blank)))) c.before.before.before.loop.invariant.1 ∙ next-placed T k w.0.taken)
     (λ w. w.2 ∙ w.1.ensures ∙ vacant-placed T k w.0.left)
     c.if1.branch
 

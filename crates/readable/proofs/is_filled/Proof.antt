@@ -7,8 +7,8 @@ use borrow.Author.Rules.{rules}
 use lib.ListN.{length, take, drop, length-drop}
 use lib.Seq.{take_all}
 use Rattle.text.proofs.Parts.{up_to_fits}
-use Rattle.tasks.specs.Tasks.{nameText}
-use Rattle.readable.specs.Tests.{fillers, isFilled}
+use Rattle.tasks.specs.Tasks.{name_text}
+use Rattle.readable.specs.Tests.{fillers, is_filled}
 use Rattle.readable.proofs.is_filled.Statement.{statement}
 use Rattle.readable.proofs.is_filled.Tie as tie
 
@@ -38,11 +38,11 @@ part-same-bytes-start-2 : tie.Need-slice-bounds-same-bytes-start-2
 part-same-bytes-start-2 c = let h = short c.before.before.before.before in search rules
 
 returns : tie.Need-returns
-unfolding isFilled
+unfolding is_filled
 returns c =
     let name = c.before.before.before.before.before.before.before2.ensures in
     let bytes = c.before.before.before.before.before.before.before.before.before.args.name.bytes in
-    rw (c.before.before.before.before.before.is_name.ensures, c.same_bytes.ensures, name, all_of bytes (length (nameText c.before.before.before.before.before.before.before.before.before.args.name)) (twelve c.before.before.before.before.before.before.before.before.before), all_of fillers (length (nameText c.before.before.before.before.before.before.before.before.before.args.name)) refl)
+    rw (c.before.before.before.before.before.is_name.ensures, c.same_bytes.ensures, name, all_of bytes (length (name_text c.before.before.before.before.before.before.before.before.before.args.name)) (twelve c.before.before.before.before.before.before.before.before.before), all_of fillers (length (name_text c.before.before.before.before.before.before.before.before.before.args.name)) refl)
 
 pub is-filled-spec : {M : Type 1} → statement M
 is-filled-spec =

@@ -1,11 +1,11 @@
 -- `readable::line_of_access` meets its contract. Assumes nothing.
 use borrow.Author.Rules.{rules}
-use Rattle.readable.specs.Tests.{lineOfAccess}
+use Rattle.readable.specs.Tests.{line_of_access}
 use Rattle.readable.proofs.line_of_access.Statement.{statement}
 use Rattle.readable.proofs.line_of_access.Tie as tie
 
 returns : tie.Need-returns
-unfolding lineOfAccess
+unfolding line_of_access
 returns c = cc
 
 pub line-of-access-spec : {M : Type 1} → statement M

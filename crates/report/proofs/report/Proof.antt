@@ -4,7 +4,7 @@ use native.Mathlib.Omega.{arith}
 use borrow.Author.Rules.{rules}
 use lib.Seq.{length-take-le}
 use Rattle.writer.proofs.Writes.{◌then◌}
-use Rattle.report.specs.Report.{reportOf}
+use Rattle.report.specs.Report.{report_of}
 use Rattle.report.proofs.report.Statement.{statement}
 use Rattle.report.proofs.report.Tie as tie
 
@@ -33,7 +33,7 @@ same_length : tie.Need-same-length
 same_length c = search rules
 
 returns : tie.Need-returns
-unfolding reportOf
+unfolding report_of
 returns c =
     let last = c.before.before.before.before.before.before in
     let lines = last.before.before.before in

@@ -2,7 +2,7 @@
 use native.Mathlib.Omega.{arith}
 use mathlib.Core.Path.{sym, ◌∙◌}
 use borrow.Author.Rules.{rules}
-use Rattle.demand.specs.Terms.{termIn}
+use Rattle.demand.specs.Terms.{term_in}
 use Rattle.demand.proofs.LeastLaws.{told-some, answer-reached}
 use Rattle.demand.proofs.DemandLaws.{demand_own}
 use Rattle.response.proofs.CountLaws.{handed-counting, handed-periodic, started-kept, asked-reached, raised-started}
@@ -38,7 +38,7 @@ returns c =
     let e = sym m.found.given.1 ∙ m.before.before.hasten.ensures in
     let at = answer-reached _ _ _ e in
     let a = s.args in
-    let own = demand_own a.own (termIn a.releases.now a.weights.now) m.found.given.0.0.0 a.n in (
+    let own = demand_own a.own (term_in a.releases.now a.weights.now) m.found.given.0.0.0 a.n in (
       told-some _ (omega (arith, at.2, own, p.0.own-least)) ∙ e,
       raised-started p.0 p.2 _ _ _ (omega (arith, at.0, p.0.time)) at.1 c.advance.ensures.1,
     )

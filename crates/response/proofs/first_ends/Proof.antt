@@ -3,13 +3,13 @@ use Prim.Native.Nat.{◌-◌, ◌≤◌}
 use mathlib.Core.Path.{◌≡◌, refl}
 use native.Mathlib.Omega.{arith}
 use Rattle.demand.specs.Positions.{front}
-use Rattle.response.specs.Counts.{firstEnd}
+use Rattle.response.specs.Counts.{first_end}
 use Rattle.demand.proofs.FrontLaws.{front-none, front-next}
 use Rattle.response.proofs.first_ends.Statement.{statement}
 use Rattle.response.proofs.first_ends.Tie as tie
 
 abbrev invariant-loop : tie.invariant-loop
-invariant-loop releases n ends₀ i₀ ends i = (i ≤ n) × (ends ≡ front 0 (firstEnd releases) i)
+invariant-loop releases n ends₀ i₀ ends i = (i ≤ n) × (ends ≡ front 0 (first_end releases) i)
 
 abbrev decreases-loop : tie.decreases-loop
 decreases-loop releases n ends₀ i₀ ends i = n - i
@@ -26,7 +26,7 @@ loop-again c =
     let l = c.before.before.before in
     let a = l.before.args in (
       omega arith,
-      rw l.loop.invariant.1 (front-next 0 (firstEnd a.releases.now) l.loop.i _ (omega arith) refl),
+      rw l.loop.invariant.1 (front-next 0 (first_end a.releases.now) l.loop.i _ (omega arith) refl),
     )
 
 returns : tie.Need-returns invariant-loop decreases-loop

@@ -3,7 +3,7 @@
 use Prim.Native.Nat.{◌-◌, ◌≤◌}
 use native.Mathlib.Omega.{arith}
 use mathlib.Core.Path.{◌≡◌, ◌∙◌}
-use Rattle.demand.specs.Terms.{termIn}
+use Rattle.demand.specs.Terms.{term_in}
 use Rattle.response.specs.Counts.{asked_of, Started}
 use Rattle.demand.proofs.LeastLaws.{told-some, found, past}
 use Rattle.demand.proofs.DemandLaws.{demand_own}
@@ -13,7 +13,7 @@ use Rattle.response.proofs.least.Tie as tie
 
 abbrev invariant-loop : tie.invariant-loop
 invariant-loop own releases weights n limit counts₀ ends₀ time₀ turns₀ counts ends time turns =
-    Started own.0 (termIn releases weights) n counts ends × (time ≡ asked_of own.0 weights counts n) × (turns ≤ 16)
+    Started own.0 (term_in releases weights) n counts ends × (time ≡ asked_of own.0 weights counts n) × (turns ≤ 16)
 
 abbrev decreases-loop : tie.decreases-loop
 decreases-loop own releases weights n limit counts₀ ends₀ time₀ turns₀ counts ends time turns = 16 - turns
@@ -37,7 +37,7 @@ returns c =
     let p = s.requires.0 in
     let at = rw (← l.loop.invariant.1) at (asked-reached p l.loop.invariant.0) in
     let e = asked-settled p l.loop.invariant.0 _ l.loop.invariant.1 (c.before.hold.ensures c.if2.true) in
-    let own = demand_own a.own.0 (termIn a.releases.now a.weights.now) l.loop.time a.n in
+    let own = demand_own a.own.0 (term_in a.releases.now a.weights.now) l.loop.time a.n in
     (told-some _ (omega (arith, e, own, p.own-least)) ∙ found _ _ _ at (omega arith) e, l.loop.invariant.0)
 
 finish-requires : tie.Need-finish-requires invariant-loop decreases-loop

@@ -2,7 +2,7 @@
 use Prim.Native.Nat.{ℕ, ◌+◌, ◌-◌, ◌*◌, ◌≤◌, ◌<◌}
 use mathlib.Core.Path.{◌≡◌, refl, sym, ap}
 use lib.ListN.{get_or}
-use Rattle.rounds.specs.Rounds.{Near, lackOf}
+use Rattle.rounds.specs.Rounds.{Near, lack_of}
 use Rattle.rounds.proofs.RoundLaws.{near_next, lack-most, Adding, adding-none, adding-next}
 use Rattle.demand.proofs.DemandLaws.{ceil-mul}
 use native.Mathlib.Omega.{arith}

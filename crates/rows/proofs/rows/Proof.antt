@@ -11,19 +11,19 @@ use Rattle.demand.specs.Positions.{front}
 use Rattle.demand.proofs.FrontLaws.{front-none, front-next, front_long}
 use Rattle.accesses.specs.declared.Access.{Access}
 use Rattle.accesses.specs.Accesses.{blocking, or_else, Listed}
-use Rattle.board.specs.Board.{ownOn, Lent}
+use Rattle.board.specs.Board.{own_on, Lent}
 use Rattle.board.proofs.LentLaws.{lent-few, lent-fewer}
 use Rattle.carried.specs.Carried.{Ledger}
 use Rattle.analysis.specs.Analysis.{no_row}
 use Rattle.response.specs.Counts.{Started}
-use Rattle.rows.specs.Rows.{rowOn, blockersOn, TellOver, plainOn, Left}
-use Rattle.rows.proofs.RowLaws.{plain-own, plain-blocks, plain-weighed, answered, none-listed, tell-only, row_told}
+use Rattle.rows.specs.Rows.{row_on, blockers_on, TellOver, plain_on, Left}
+use Rattle.rows.proofs.RowLaws.{plain-own, plain-blocks, plain-weighed, answered, none-listed, tell-only, row_is_told}
 use Rattle.rows.proofs.rows.Statement.{statement}
 use Rattle.rows.proofs.rows.Tie as tie
 
 abbrev invariant-loop : tie.invariant-loop
 invariant-loop board count accesses listed ledger₀ weights₀ rows₀ counts₀ ends₀ i₀ ledger weights rows counts ends i =
-    (i ≤ count) × (length weights ≡ 160) × Ledger board i ledger × (rows ≡ front no_row (rowOn board (take listed accesses)) i) × Left board i counts ends
+    (i ≤ count) × (length weights ≡ 160) × Ledger board i ledger × (rows ≡ front no_row (row_on board (take listed accesses)) i) × Left board i counts ends
 
 abbrev decreases-loop : tie.decreases-loop
 decreases-loop board count accesses listed ledger₀ weights₀ rows₀ counts₀ ends₀ i₀ ledger weights rows counts ends i = count - i
@@ -71,8 +71,8 @@ blocked-requires c κs =
 
 -- the answers of the row, whether there are accesses or not, and what the search without reloads leaves of it
 told : (c : tie.Joined1 invariant-loop decreases-loop) → let h = c.before.before.before.before.before.before.before.before.before in let a = h.before.before.args in
-    TellOver a.board.now (blockersOn a.board.now (take a.listed a.accesses) h.loop.i) h.loop.i c.if1.ticks
-    × Started (ownOn a.board.now h.loop.i) (plainOn a.board.now) h.loop.i c.if1.counts c.if1.ends
+    TellOver a.board.now (blockers_on a.board.now (take a.listed a.accesses) h.loop.i) h.loop.i c.if1.ticks
+    × Started (own_on a.board.now h.loop.i) (plain_on a.board.now) h.loop.i c.if1.counts c.if1.ends
 told c =
     let plain = c.before in
     let inside = plain.before.before.before.before.before.before.before in
@@ -104,7 +104,7 @@ loop-again c =
       omega (arith, inside.loop-test.true),
       w.weighed.long,
       w.carried,
-      rw h.loop.invariant.3 (front-next no_row _ i _ (omega (arith, inside.loop-test.true, lent-few h.before.before.requires.0)) (row_told _ _ i _ _ c.row_of.ensures (told joined).0)),
+      rw h.loop.invariant.3 (front-next no_row _ i _ (omega (arith, inside.loop-test.true, lent-few h.before.before.requires.0)) (row_is_told _ _ i _ _ c.row_of.ensures (told joined).0)),
       record { long = rest.long; ends-long = rest.ends-long; above = λ k e. let same : k ≡ i = omega arith in rw same rest },
     )
 

@@ -2,14 +2,14 @@
 use Prim.Native.Nat.{◌-◌, ◌≤◌}
 use mathlib.Core.Path.{◌≡◌, refl, ap, ◌∙◌}
 use native.Mathlib.Omega.{arith}
-use Rattle.scaling.specs.Scaling.{scaledBy}
-use Rattle.scaling.proofs.ScaledLaws.{withTasks, scaledFirst, next-is, next-scaled, first-all}
+use Rattle.scaling.specs.Scaling.{scaled_by}
+use Rattle.scaling.proofs.ScaledLaws.{with_tasks, scaled_first, next-is, next-scaled, first-all}
 use Rattle.scaling.proofs.scaled.Statement.{statement}
 use Rattle.scaling.proofs.scaled.Tie as tie
 
 abbrev invariant-loop : tie.invariant-loop
 invariant-loop k result₀ j₀ result j =
-    (j ≤ 32) × (result ≡ withTasks result₀ (scaledFirst k j result₀.tasks))
+    (j ≤ 32) × (result ≡ with_tasks result₀ (scaled_first k j result₀.tasks))
 
 abbrev decreases-loop : tie.decreases-loop
 decreases-loop k result₀ j₀ result j = 32 - j
@@ -52,10 +52,10 @@ loop-again c =
     )
 
 returns : tie.Need-returns invariant-loop decreases-loop
-unfolding scaledBy
+unfolding scaled_by
 returns c =
     let start = c.before.before in
-    c.before.loop.invariant.1 ∙ ap (withTasks start.args.table) (first-all start.args.k c.before.loop.j start.args.table.tasks (omega (arith, start.requires.long)))
+    c.before.loop.invariant.1 ∙ ap (with_tasks start.args.table) (first-all start.args.k c.before.loop.j start.args.table.tasks (omega (arith, start.requires.long)))
 
 pub scaled-spec : {M : Type 1} → statement M
 scaled-spec =

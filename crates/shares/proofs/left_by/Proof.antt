@@ -2,21 +2,21 @@
 use Prim.Native.Nat.{◌-◌, ◌≤◌}
 use mathlib.Core.Path.{◌≡◌}
 use native.Mathlib.Omega.{arith}
-use Rattle.demand.specs.Terms.{termIn}
+use Rattle.demand.specs.Terms.{term_in}
 use Rattle.shares.specs.Shares.{shares_of}
 use Rattle.shares.proofs.ShareLaws.{shares-none, shares-next}
 use Rattle.shares.proofs.left_by.Statement.{statement}
 use Rattle.shares.proofs.left_by.Tie as tie
 
 abbrev invariant-loop : tie.invariant-loop
-invariant-loop releases weights n left₀ i₀ left i = (i ≤ n) × (left ≡ 17179869184 - shares_of (termIn releases weights) i)
+invariant-loop releases weights n left₀ i₀ left i = (i ≤ n) × (left ≡ 17179869184 - shares_of (term_in releases weights) i)
 
 abbrev decreases-loop : tie.decreases-loop
 decreases-loop releases weights n left₀ i₀ left i = n - i
 
 loop-holds : tie.Need-loop-init invariant-loop decreases-loop
 loop-holds c =
-    let a = c.before.before.args in omega (arith, shares-none (termIn a.releases.now a.weights.now))
+    let a = c.before.before.args in omega (arith, shares-none (term_in a.releases.now a.weights.now))
 
 share-requires : tie.Need-share-requires invariant-loop decreases-loop
 share-requires c κs =
@@ -26,7 +26,7 @@ loop-again : tie.Need-loop-preserved invariant-loop decreases-loop
 loop-again c =
     let h = c.before.before.before.before.before.before in
     let a = h.before.before.before.args in
-    let more = shares-next (termIn a.releases.now a.weights.now) h.loop.i in
+    let more = shares-next (term_in a.releases.now a.weights.now) h.loop.i in
     let taken = c.before.share.ensures in
     (omega arith, omega (arith, c.without.ensures))
 

@@ -7,7 +7,7 @@ use borrow.Author.Rules.{rules}
 use lib.Dec.{ltb}
 use lib.ListN.{length-take}
 use Rattle.faults.proofs.First.{first_fits}
-use Rattle.table.specs.Tasks.{tasksOf}
+use Rattle.table.specs.Tasks.{tasks_of}
 use Rattle.table.specs.Reading.{refused}
 use Rattle.table.proofs.Steps.{end-stop, end-fine, blocked-stop, blocked-fine}
 use Rattle.table.proofs.finish.Statement.{statement}
@@ -21,7 +21,7 @@ told : (c : tie.After-first-blocked) → c.first-blocked.result ≤ 32
 told c =
     let start = c.before.before.before.before.before.before.before in
     let few : start.args.table.count ≤ 32 = start.requires in
-    omega (arith, c.first-blocked.ensures, first_fits (λ t. ltb 0 t.blocking.0) (tasksOf start.args.table), length-take start.args.table.count start.args.table.tasks)
+    omega (arith, c.first-blocked.ensures, first_fits (λ t. ltb 0 t.blocking.0) (tasks_of start.args.table), length-take start.args.table.count start.args.table.tasks)
 
 add-refuse : tie.Need-overflow-add-refuse
 add-refuse c = omega (arith, told c)

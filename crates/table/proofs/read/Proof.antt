@@ -3,13 +3,13 @@
 use mathlib.Core.Path.{◌≡◌, sym, ◌∙◌}
 use borrow.Author.Rules.{rules}
 use Rattle.faults.specs.declared.Finding.TheVariants.{Fine}
-use Rattle.faults.specs.Faults.{textFault}
+use Rattle.faults.specs.Faults.{text_fault}
 use Rattle.faults.proofs.LineLaws.{not-empty}
 use Rattle.table.proofs.Steps.{text-step, text-stop}
 use Rattle.table.proofs.read.Statement.{statement}
 use Rattle.table.proofs.read.Tie as tie
 
-fine : (c : tie.After-enum-told) → textFault c.before.before.before.before.args.input.now ≡ Fine
+fine : (c : tie.After-enum-told) → text_fault c.before.before.before.before.args.input.now ≡ Fine
 fine c = sym c.before.before.text-fault.ensures ∙ c.enum_told.given.1
 
 returns : tie.Need-returns

@@ -13,14 +13,14 @@ use lib.Dec.{leb}
 use lib.ListN.{length, take}
 use Rattle.text.specs.Cut.{up_to, field, lines}
 use Rattle.text.proofs.Parts.{after-shorter}
-use Rattle.fields.specs.Fields.{isLetter}
-use Rattle.tasks.specs.Tasks.{nameIn}
+use Rattle.fields.specs.Fields.{is_letter}
+use Rattle.tasks.specs.Tasks.{name_in}
 use Rattle.faults.specs.declared.Finding.TheVariants.{Fine, Fault}
-use Rattle.access_lines.specs.AccessLines.{accessSaid, accessFault}
+use Rattle.access_lines.specs.AccessLines.{access_said, access_fault}
 use Rattle.access_lines.proofs.Holds.{access-holds}
 use Rattle.table.specs.declared.Table.{Table}
-use Rattle.table.specs.Tasks.{names_of, withAccess}
-use Rattle.table.specs.Reading.{isTaskLine, isAccessLine, lineFault, readFrom, TasksRead}
+use Rattle.table.specs.Tasks.{names_of, with_access}
+use Rattle.table.specs.Reading.{is_task_line, is_access_line, line_fault, read_from, TasksRead}
 use Rattle.table.proofs.Lists.{take-map}
 use Rattle.table.proofs.Steps.{first_field, late-found, access-found, access-added, other-found, read_step, read-stop, read-end}
 use Rattle.table.proofs.read_accesses.Statement.{statement}
@@ -28,7 +28,7 @@ use Rattle.table.proofs.read_accesses.Tie as tie
 
 abbrev invariant-loop : tie.invariant-loop
 invariant-loop names input first table₀ rest₀ line₀ table rest line =
-    TasksRead table names rest line × (readFrom line table (lines rest) ≡ readFrom first table₀ (lines input))
+    TasksRead table names rest line × (read_from line table (lines rest) ≡ read_from first table₀ (lines input))
 
 abbrev decreases-loop : tie.decreases-loop
 decreases-loop names input first table₀ rest₀ line₀ table rest line = length rest
@@ -41,35 +41,35 @@ abbrev L : tie.At-loop invariant-loop decreases-loop → List ℕ
 L c = up_to 10 c.loop.rest.now
 
 -- the first field of the next line, as it is tested
-letter-is : (c : tie.After-before3 invariant-loop decreases-loop) (b : ℕ) → isLetter b c.before3.result.now ≡ isLetter b (field 0 (L c.before.before.before))
+letter-is : (c : tie.After-before3 invariant-loop decreases-loop) (b : ℕ) → is_letter b c.before3.result.now ≡ is_letter b (field 0 (L c.before.before.before))
 letter-is c b =
-    ap (isLetter b) (c.before3.ensures ∙ ap (up_to 9) c.before.before2.ensures) ∙ first_field b (L c.before.before.before)
+    ap (is_letter b) (c.before3.ensures ∙ ap (up_to 9) c.before.before2.ensures) ∙ first_field b (L c.before.before.before)
 
-is-task : (c : tie.After-is-letter invariant-loop decreases-loop) → c.is-letter.result ≡ isTaskLine (L c.before.before.before.before)
+is-task : (c : tie.After-is-letter invariant-loop decreases-loop) → c.is-letter.result ≡ is_task_line (L c.before.before.before.before)
 is-task c = c.is-letter.ensures ∙ letter-is c.before 84
 
-no-task : (c : tie.Else1 invariant-loop decreases-loop) → isTaskLine (L c.before.before.before.before.before) ≡ false
+no-task : (c : tie.Else1 invariant-loop decreases-loop) → is_task_line (L c.before.before.before.before.before) ≡ false
 no-task c = sym (is-task c.before) ∙ c.if1.false
 
-is-access : (c : tie.After-is-letter2 invariant-loop decreases-loop) → c.is-letter2.result ≡ isAccessLine (L c.before.before.before.before.before.before)
+is-access : (c : tie.After-is-letter2 invariant-loop decreases-loop) → c.is-letter2.result ≡ is_access_line (L c.before.before.before.before.before.before)
 is-access c = c.is-letter2.ensures ∙ letter-is c.before.before.before 65
 
 -- what `access_said` returned is what the next line says
 said : (c : tie.After-access-said invariant-loop decreases-loop)
-    → c.access-said.result ≡ accessSaid (T c.before.before.before.before.before.before.before.before).sets (names_of (T c.before.before.before.before.before.before.before.before)) (L c.before.before.before.before.before.before.before.before)
+    → c.access-said.result ≡ access_said (T c.before.before.before.before.before.before.before.before).sets (names_of (T c.before.before.before.before.before.before.before.before)) (L c.before.before.before.before.before.before.before.before)
 said c =
     let at = c.before.before.before.before.before.before.before.before in
-    let names = ap (take (T at).count) at.loop.invariant.0.named ∙ take-map nameIn (T at).count (T at).tasks in
+    let names = ap (take (T at).count) at.loop.invariant.0.named ∙ take-map name_in (T at).count (T at).tasks in
     c.access-said.ensures ∙ rw (names, c.before.before.before.before.before.before.before2.ensures)
 
 -- what `access_fault` returned is what is found of the next line
-found : (c : tie.After-access-fault invariant-loop decreases-loop) → lineFault (T c.before.before.before.before.before.before.before.before.before) (L c.before.before.before.before.before.before.before.before.before) ≡ c.access-fault.result
+found : (c : tie.After-access-fault invariant-loop decreases-loop) → line_fault (T c.before.before.before.before.before.before.before.before.before) (L c.before.before.before.before.before.before.before.before.before) ≡ c.access-fault.result
 found c =
     let at = c.before.before.before.before.before.before.before.before.before in
     access-found (T at) (L at) (no-task c.before.before.before.before) (sym (is-access c.before.before.before) ∙ not-false _ c.before.before.if3.false)
-    ∙ sym (c.access-fault.ensures ∙ ap (accessFault (T at).access_count (T at).count) (said c.before))
+    ∙ sym (c.access-fault.ensures ∙ ap (access_fault (T at).access_count (T at).count) (said c.before))
 
-fine : (c : tie.After-enum-told invariant-loop decreases-loop) → lineFault (T c.before.before.before.before.before.before.before.before.before.before.before) (L c.before.before.before.before.before.before.before.before.before.before.before) ≡ Fine
+fine : (c : tie.After-enum-told invariant-loop decreases-loop) → line_fault (T c.before.before.before.before.before.before.before.before.before.before.before) (L c.before.before.before.before.before.before.before.before.before.before.before) ≡ Fine
 fine c = found c.before.before ∙ c.enum_told.given.1
 
 -- so there is room for its access
@@ -132,7 +132,7 @@ add-line c =
     omega (arith, at.loop.invariant.0.fits, shorter c)
 
 loop-again : tie.Need-loop-preserved invariant-loop decreases-loop
-unfolding withAccess
+unfolding with_access
 loop-again c =
     let e = c.before.before in
     let at = c.before.before.before.before.before.before.before.before.before.before.before.before.before in

@@ -3,19 +3,19 @@
 use mathlib.Core.Path.{◌≡◌, sym, ap, ◌∙◌}
 use borrow.Author.Rules.{rules}
 use Rattle.text.specs.Cut.{up_to}
-use Rattle.tasks.specs.Said.{headSaid}
-use Rattle.faults.specs.Faults.{headFault}
+use Rattle.tasks.specs.Said.{head_said}
+use Rattle.faults.specs.Faults.{head_fault}
 use Rattle.table.proofs.Steps.{head_step, head-stop}
 use Rattle.table.proofs.read_lines.Statement.{statement}
 use Rattle.table.proofs.read_lines.Tie as tie
 
 -- what `head_said` returned is what line 1 says
-said : (c : tie.After-head-said) → c.head-said.result ≡ headSaid (up_to 10 c.before.before.before.args.input.now)
-said c = c.head-said.ensures ∙ ap headSaid c.before.before2.ensures
+said : (c : tie.After-head-said) → c.head-said.result ≡ head_said (up_to 10 c.before.before.before.args.input.now)
+said c = c.head-said.ensures ∙ ap head_said c.before.before2.ensures
 
 -- what `head_fault` returned is what is found of it
-found : (c : tie.After-head-fault) → headFault (headSaid (up_to 10 c.before.before.before.before.args.input.now)) ≡ c.head-fault.result
-found c = sym (c.head-fault.ensures ∙ ap headFault (said c.before))
+found : (c : tie.After-head-fault) → head_fault (head_said (up_to 10 c.before.before.before.before.args.input.now)) ≡ c.head-fault.result
+found c = sym (c.head-fault.ensures ∙ ap head_fault (said c.before))
 
 returns : tie.Need-returns
 returns c =

@@ -12,14 +12,14 @@ use lib.ListN.{length, take, set}
 use Rattle.text.specs.Cut.{up_to, lines}
 use Rattle.text.proofs.Parts.{after-shorter}
 use Rattle.tasks.specs.declared.Name.{Name}
-use Rattle.tasks.specs.Tasks.{nameIn}
-use Rattle.tasks.specs.Said.{taskSaid}
+use Rattle.tasks.specs.Tasks.{name_in}
+use Rattle.tasks.specs.Said.{task_said}
 use Rattle.faults.specs.declared.Finding.TheVariants.{Fine}
-use Rattle.faults.specs.Faults.{taskFault}
+use Rattle.faults.specs.Faults.{task_fault}
 use Rattle.faults.proofs.LineLaws.{task-holds}
 use Rattle.table.specs.declared.Table.{Table}
-use Rattle.table.specs.Tasks.{newTable, withTask}
-use Rattle.table.specs.Reading.{isTaskLine, lineFault, readFrom}
+use Rattle.table.specs.Tasks.{new_table, with_task}
+use Rattle.table.specs.Reading.{is_task_line, line_fault, read_from}
 use Rattle.table.proofs.Lists.{set-map, take-map}
 use Rattle.table.proofs.Steps.{first_field, task-found, task-added, read_step, read-stop, read-end, end-stop, end-fine, none-blocks, blocked-fine}
 use Rattle.table.proofs.read_tasks.Statement.{statement}
@@ -29,8 +29,8 @@ abbrev invariant-loop : tie.invariant-loop
 invariant-loop sets brt input table₀ names₀ rest₀ line₀ table names rest line =
     (line + length rest ≤ 2 + length input)
     × (table.count ≤ 32)
-    × (names ≡ map nameIn table.tasks)
-    × (readFrom line table (lines rest) ≡ readFrom 2 (newTable sets brt) (lines input))
+    × (names ≡ map name_in table.tasks)
+    × (read_from line table (lines rest) ≡ read_from 2 (new_table sets brt) (lines input))
     × (table.access_count ≡ 0)
 
 abbrev decreases-loop : tie.decreases-loop
@@ -44,28 +44,28 @@ abbrev L : tie.At-loop invariant-loop decreases-loop → List ℕ
 L c = up_to 10 c.loop.rest.now
 
 -- whether the next line is a task line, as it is tested
-is-task : (c : tie.After-is-letter invariant-loop decreases-loop) → c.is-letter.result ≡ isTaskLine (L c.before.before.before.before)
+is-task : (c : tie.After-is-letter invariant-loop decreases-loop) → c.is-letter.result ≡ is_task_line (L c.before.before.before.before)
 is-task c =
     c.is-letter.ensures ∙ rw (c.before.before3.ensures, c.before.before.before2.ensures) (first_field 84 (L c.before.before.before.before))
 
-task : (c : tie.Else1 invariant-loop decreases-loop) → isTaskLine (L c.before.before.before.before.before) ≡ true
+task : (c : tie.Else1 invariant-loop decreases-loop) → is_task_line (L c.before.before.before.before.before) ≡ true
 task c = sym (is-task c.before) ∙ not-false _ c.if1.false
 
 -- what `task_said` returned is what the next line says
-said : (c : tie.After-task-said invariant-loop decreases-loop) → c.task-said.result ≡ taskSaid (T c.before.before.before.before.before.before).sets (L c.before.before.before.before.before.before)
+said : (c : tie.After-task-said invariant-loop decreases-loop) → c.task-said.result ≡ task_said (T c.before.before.before.before.before.before).sets (L c.before.before.before.before.before.before)
 said c =
     let at = c.before.before.before.before.before.before in
-    c.task-said.ensures ∙ ap (taskSaid (T at).sets) c.before.before.before.before.before2.ensures
+    c.task-said.ensures ∙ ap (task_said (T at).sets) c.before.before.before.before.before2.ensures
 
 -- what `task_fault` returned is what is found of the next line
-found : (c : tie.After-task-fault invariant-loop decreases-loop) → lineFault (T c.before.before.before.before.before.before.before) (L c.before.before.before.before.before.before.before) ≡ c.task-fault.result
+found : (c : tie.After-task-fault invariant-loop decreases-loop) → line_fault (T c.before.before.before.before.before.before.before) (L c.before.before.before.before.before.before.before) ≡ c.task-fault.result
 found c =
     let at = c.before.before.before.before.before.before.before in
-    let names = ap (λ (l : List Name). take (T at).count l) at.loop.invariant.2 ∙ take-map nameIn (T at).count (T at).tasks in
+    let names = ap (λ (l : List Name). take (T at).count l) at.loop.invariant.2 ∙ take-map name_in (T at).count (T at).tasks in
     task-found (T at) (L at) (task c.before.before) at.loop.invariant.4
-    ∙ sym (c.task-fault.ensures ∙ ap₂ (taskFault false (T at).count) names (said c.before))
+    ∙ sym (c.task-fault.ensures ∙ ap₂ (task_fault false (T at).count) names (said c.before))
 
-fine : (c : tie.After-enum-told invariant-loop decreases-loop) → lineFault (T c.before.before.before.before.before.before.before.before.before) (L c.before.before.before.before.before.before.before.before.before) ≡ Fine
+fine : (c : tie.After-enum-told invariant-loop decreases-loop) → line_fault (T c.before.before.before.before.before.before.before.before.before) (L c.before.before.before.before.before.before.before.before.before) ≡ Fine
 fine c = found c.before.before ∙ c.enum_told.given.1
 
 -- so there is room for its task
@@ -81,7 +81,7 @@ shorter c =
 loop-holds : tie.Need-loop-init invariant-loop decreases-loop
 loop-holds c =
     let new = c.new-table.ensures in
-    (search rules, rw new (search rules), rw new, ap (λ (t : Table). readFrom 2 t (lines c.before.before.args.input.now)) new, rw new)
+    (search rules, rw new (search rules), rw new, ap (λ (t : Table). read_from 2 t (lines c.before.before.args.input.now)) new, rw new)
 
 read-accesses-requires : tie.Need-read-accesses-requires invariant-loop decreases-loop
 read-accesses-requires c κs =
@@ -129,14 +129,14 @@ add-line c =
     omega (arith, at.loop.invariant.0)
 
 loop-again : tie.Need-loop-preserved invariant-loop decreases-loop
-unfolding withTask
+unfolding with_task
 loop-again c =
     let e = c.before.before.before in
     let at = c.before.before.before.before.before.before.before.before.before.before.before.before in
     let line = e.before.before.before.task-said.result in (
       omega (arith, at.loop.invariant.0, shorter c),
       omega (arith, fits e),
-      ap (λ (l : List Name). set l (T at).count line.task.name) at.loop.invariant.2 ∙ set-map nameIn (T at).tasks (T at).count line.task,
+      ap (λ (l : List Name). set l (T at).count line.task.name) at.loop.invariant.2 ∙ set-map name_in (T at).tasks (T at).count line.task,
       rw (said e.before.before.before, c.past.ensures, ← task-added (T at) (L at) (task e.before.before.before.before)) (read_step at.loop.line (T at) at.loop.rest.now c.before.before.before.before.before.before.before.before.before.before.before.loop-test.true (fine e)) ∙ at.loop.invariant.3,
       at.loop.invariant.4,
     )

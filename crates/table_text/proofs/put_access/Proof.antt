@@ -3,18 +3,18 @@ use mathlib.Core.Path.{◌≡◌, ap}
 use native.Mathlib.Omega.{arith}
 use borrow.Author.Rules.{rules}
 use lib.ListN.{length}
-use Rattle.tasks.specs.Tasks.{nameText}
-use Rattle.writer.specs.Text.{afterTab}
+use Rattle.tasks.specs.Tasks.{name_text}
+use Rattle.writer.specs.Text.{after_tab}
 use Rattle.writer.proofs.Writes.{◌then◌, reading}
 use Rattle.table_text.proofs.Lengths.{access-length, access-parts}
 use Rattle.table_text.proofs.put_access.Statement.{statement}
 use Rattle.table_text.proofs.put_access.Tie as tie
 
 -- what is lent as the names
-named : (c : tie.After-before2) → length c.before2.result.now ≡ length (nameText c.before.before.before.before.before.before.before.before.before.before.args.task)
+named : (c : tie.After-before2) → length c.before2.result.now ≡ length (name_text c.before.before.before.before.before.before.before.before.before.before.args.task)
 named c = ap length c.before2.ensures
 
-topped : (c : tie.After-before3) → length c.before3.result.now ≡ length (nameText c.before.before.before.before.before.before.before.before.before.before.before.before.before.before.before.before.args.ceiling)
+topped : (c : tie.After-before3) → length c.before3.result.now ≡ length (name_text c.before.before.before.before.before.before.before.before.before.before.before.before.before.before.before.before.args.ceiling)
 topped c = ap length c.before3.ensures
 
 put-byte-requires : tie.Need-put-byte-requires
@@ -47,7 +47,7 @@ returns c =
     let task = c.before.before.before.before.before.before.before.before.before.before.before.before.before.before.before.before.before.before.before.before in
     let ceiling = c.before.before.before.before.before.before.before.before.before.before.before.before.before.before in
     reading (access-parts a.sets a.task a.ceiling a.access)
-    (c.before.before.before.before.before.before.before.before.before.before.before.before.before.before.before.before.before.before.before.before.before.before.before.before.before.before.put_byte.ensures then reading (ap afterTab task.before.before2.ensures) task.put-field.ensures then reading (ap afterTab ceiling.before.before3.ensures) ceiling.put-field2.ensures then c.before.before.before.before.before.before.before.before.before.before.put-number-field.ensures
+    (c.before.before.before.before.before.before.before.before.before.before.before.before.before.before.before.before.before.before.before.before.before.before.before.before.before.before.put_byte.ensures then reading (ap after_tab task.before.before2.ensures) task.put-field.ensures then reading (ap after_tab ceiling.before.before3.ensures) ceiling.put-field2.ensures then c.before.before.before.before.before.before.before.before.before.before.put-number-field.ensures
     then c.before.before.before.before.before.before.put-set.ensures then c.before.before.put-byte2.ensures)
 
 pub put-access-spec : {M : Type 1} → statement M

@@ -6,25 +6,25 @@ use native.Mathlib.Omega.{arith}
 use borrow.Author.Rules.{rules}
 use lib.ListN.{length, take, get_or, length-append}
 use Rattle.accesses.specs.declared.Access.{Access}
-use Rattle.accesses.specs.Accesses.{emptyAccess}
+use Rattle.accesses.specs.Accesses.{empty_access}
 use Rattle.tasks.proofs.Arrays.{length-mapped}
 use Rattle.table.specs.declared.Table.{Table}
-use Rattle.table.specs.Tasks.{tasksOf}
+use Rattle.table.specs.Tasks.{tasks_of}
 use Rattle.table.specs.Accepted.{AcceptedAccess}
 use Rattle.writer.specs.Wrote.{Wrote}
-use Rattle.writer.proofs.Writes.{◌then◌, nothing, reading, flatMap-take}
-use Rattle.table_text.specs.TableText.{accessTextIn}
+use Rattle.writer.proofs.Writes.{◌then◌, nothing, reading, flat_map-take}
+use Rattle.table_text.specs.TableText.{access_text_in}
 use Rattle.table_text.proofs.Lengths.{access-held, access-line, accesses-short}
 use Rattle.table_text.proofs.put_accesses.Statement.{statement}
 use Rattle.table_text.proofs.put_accesses.Tie as tie
 
 -- the line of an access of the table
-abbrev lineIn : Table → Access → List ℕ
-lineIn T a = accessTextIn T.sets (tasksOf T) a
+abbrev line_in : Table → Access → List ℕ
+line_in T a = access_text_in T.sets (tasks_of T) a
 
 abbrev invariant-loop : tie.invariant-loop
 invariant-loop out₀ at table sets n next₀ i₀ out next i =
-    Wrote out₀ at (flat_map (lineIn table) (take i table.accesses)) out next × (i ≤ n) × (length out ≡ length out₀)
+    Wrote out₀ at (flat_map (line_in table) (take i table.accesses)) out next × (i ≤ n) × (length out ≡ length out₀)
 
 abbrev decreases-loop : tie.decreases-loop
 decreases-loop out₀ at table sets n next₀ i₀ out next i = n - i
@@ -46,20 +46,20 @@ inside c = omega (arith, c.before.before.before.requires.0.few-accesses)
 abbrev T : tie.In-loop invariant-loop decreases-loop → Table
 T c = c.before.before.before.args.t3
 
-held : (c : tie.In-loop invariant-loop decreases-loop) → AcceptedAccess (T c).sets (T c).count (get_or (T c).accesses c.before.loop.i emptyAccess)
+held : (c : tie.In-loop invariant-loop decreases-loop) → AcceptedAccess (T c).sets (T c).count (get_or (T c).accesses c.before.loop.i empty_access)
 held c = access-held (T c) c.before.before.before.requires.0 c.before.loop.i (search rules)
 
-task-inside : (c : tie.In-loop invariant-loop decreases-loop) → (get_or (T c).accesses c.before.loop.i emptyAccess).task < 32
+task-inside : (c : tie.In-loop invariant-loop decreases-loop) → (get_or (T c).accesses c.before.loop.i empty_access).task < 32
 task-inside c = omega (arith, (held c).task, c.before.before.before.requires.0.few)
 
-ceiling-inside : (c : tie.In-loop invariant-loop decreases-loop) → (get_or (T c).accesses c.before.loop.i emptyAccess).ceiling < 32
+ceiling-inside : (c : tie.In-loop invariant-loop decreases-loop) → (get_or (T c).accesses c.before.loop.i empty_access).ceiling < 32
 ceiling-inside c = omega (arith, (held c).ceiling, task-inside c)
 
 -- the lines of the first accesses and of the one that is read
 next-line : (c : tie.In-loop invariant-loop decreases-loop)
-    → flat_map (lineIn (T c)) (take c.before.loop.i (T c).accesses) ++ lineIn (T c) (get_or (T c).accesses c.before.loop.i emptyAccess)
-    ≡ flat_map (lineIn (T c)) (take (c.before.loop.i + 1) (T c).accesses)
-next-line c = flatMap-take (lineIn (T c)) (T c).accesses c.before.loop.i emptyAccess (omega (arith, inside c, long c.before.before.before))
+    → flat_map (line_in (T c)) (take c.before.loop.i (T c).accesses) ++ line_in (T c) (get_or (T c).accesses c.before.loop.i empty_access)
+    ≡ flat_map (line_in (T c)) (take (c.before.loop.i + 1) (T c).accesses)
+next-line c = flat_map-take (line_in (T c)) (T c).accesses c.before.loop.i empty_access (omega (arith, inside c, long c.before.before.before))
 
 mul-access : tie.Need-overflow-mul-access invariant-loop decreases-loop
 mul-access c = omega (arith, inside c)

@@ -3,15 +3,15 @@ use mathlib.Core.Path.{◌≡◌, ap}
 use native.Mathlib.Omega.{arith}
 use borrow.Author.Rules.{rules}
 use lib.ListN.{length}
-use Rattle.tasks.specs.Tasks.{nameText}
-use Rattle.writer.specs.Text.{afterTab}
+use Rattle.tasks.specs.Tasks.{name_text}
+use Rattle.writer.specs.Text.{after_tab}
 use Rattle.writer.proofs.Writes.{◌then◌, reading}
 use Rattle.table_text.proofs.Lengths.{task-length, task-parts}
 use Rattle.table_text.proofs.put_task.Statement.{statement}
 use Rattle.table_text.proofs.put_task.Tie as tie
 
 -- what is lent as the name
-named : (c : tie.After-before2) → length c.before2.result.now ≡ length (nameText c.before.before.before.before.before.before.before.before.before.args.task.name)
+named : (c : tie.After-before2) → length c.before2.result.now ≡ length (name_text c.before.before.before.before.before.before.before.before.before.args.task.name)
 named c = ap length c.before2.ensures
 
 put-byte-requires : tie.Need-put-byte-requires
@@ -37,7 +37,7 @@ returns c =
     let a = c.before.before.before.before.before.before.before.before.before.before.before.before.before.before.before.before.before.before.before.before.before.before.before.before.before.before.before.before.args in
     let name = c.before.before.before.before.before.before.before.before.before.before.before.before.before.before.before.before.before.before in
     reading (task-parts a.sets a.task)
-    (c.before.before.before.before.before.before.before.before.before.before.before.before.before.before.before.before.before.before.before.before.before.before.before.before.put_byte.ensures then reading (ap afterTab name.before.before2.ensures) name.put-field.ensures then c.before.before.before.before.before.before.before.before.before.before.before.before.before.before.put-times.ensures
+    (c.before.before.before.before.before.before.before.before.before.before.before.before.before.before.before.before.before.before.before.before.before.before.before.before.put_byte.ensures then reading (ap after_tab name.before.before2.ensures) name.put-field.ensures then c.before.before.before.before.before.before.before.before.before.before.before.before.before.before.put-times.ensures
     then c.before.before.before.before.before.before.before.before.before.before.put-set.ensures then c.before.before.before.before.before.before.put-set2.ensures then c.before.before.put-byte2.ensures)
 
 pub put-task-spec : {M : Type 1} → statement M

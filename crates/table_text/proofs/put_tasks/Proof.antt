@@ -8,15 +8,15 @@ use lib.ListN.{length, take, get_or, length-append}
 use Rattle.tasks.specs.Tasks.{blank}
 use Rattle.tasks.proofs.Arrays.{length-mapped}
 use Rattle.writer.specs.Wrote.{Wrote}
-use Rattle.writer.proofs.Writes.{◌then◌, nothing, reading, flatMap-take}
-use Rattle.table_text.specs.TableText.{taskText}
+use Rattle.writer.proofs.Writes.{◌then◌, nothing, reading, flat_map-take}
+use Rattle.table_text.specs.TableText.{task_text}
 use Rattle.table_text.proofs.Lengths.{tasks-short}
 use Rattle.table_text.proofs.put_tasks.Statement.{statement}
 use Rattle.table_text.proofs.put_tasks.Tie as tie
 
 abbrev invariant-loop : tie.invariant-loop
 invariant-loop out₀ at table sets n next₀ i₀ out next i =
-    Wrote out₀ at (flat_map (taskText table.sets) (take i table.tasks)) out next × (i ≤ n) × (length out ≡ length out₀)
+    Wrote out₀ at (flat_map (task_text table.sets) (take i table.tasks)) out next × (i ≤ n) × (length out ≡ length out₀)
 
 abbrev decreases-loop : tie.decreases-loop
 decreases-loop out₀ at table sets n next₀ i₀ out next i = n - i
@@ -36,12 +36,12 @@ inside c = omega (arith, c.before.before.before.requires.0.few)
 
 -- the lines of the first tasks and of the one that is read
 next-line : (c : tie.In-loop invariant-loop decreases-loop)
-    → flat_map (taskText c.before.before.before.args.t3.sets) (take c.before.loop.i c.before.before.before.args.t3.tasks)
-    ++ taskText c.before.before.before.args.t3.sets (get_or c.before.before.before.args.t3.tasks c.before.loop.i blank)
-    ≡ flat_map (taskText c.before.before.before.args.t3.sets) (take (c.before.loop.i + 1) c.before.before.before.args.t3.tasks)
+    → flat_map (task_text c.before.before.before.args.t3.sets) (take c.before.loop.i c.before.before.before.args.t3.tasks)
+    ++ task_text c.before.before.before.args.t3.sets (get_or c.before.before.before.args.t3.tasks c.before.loop.i blank)
+    ≡ flat_map (task_text c.before.before.before.args.t3.sets) (take (c.before.loop.i + 1) c.before.before.before.args.t3.tasks)
 next-line c =
     let a = c.before.before.before.args in
-    flatMap-take (taskText a.t3.sets) a.t3.tasks c.before.loop.i blank (omega (arith, inside c, long c.before.before.before))
+    flat_map-take (task_text a.t3.sets) a.t3.tasks c.before.loop.i blank (omega (arith, inside c, long c.before.before.before))
 
 mul-task : tie.Need-overflow-mul-task invariant-loop decreases-loop
 mul-task c = search rules

@@ -4,7 +4,7 @@ use native.Mathlib.Omega.{arith}
 use borrow.Author.Rules.{rules}
 use lib.Seq.{length-take-le}
 use Rattle.writer.proofs.Writes.{◌then◌, counted}
-use Rattle.table_text.specs.TableText.{tableText}
+use Rattle.table_text.specs.TableText.{table_text}
 use Rattle.table_text.proofs.Lengths.{head-short, tasks-shorter, table-short}
 use Rattle.table_text.proofs.write.Statement.{statement}
 use Rattle.table_text.proofs.write.Tie as tie
@@ -36,7 +36,7 @@ slice-aggregate-deliver : tie.Need-slice-aggregate-deliver
 slice-aggregate-deliver c = sym (length-take-le _ _ (array-share-prefix-draft c.before))
 
 returns : tie.Need-returns
-unfolding tableText
+unfolding table_text
 returns c =
     let accesses = c.before.before.before.before.before.before in
     let tasks = accesses.before.before.before in

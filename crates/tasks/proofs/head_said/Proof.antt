@@ -1,15 +1,15 @@
 -- `tasks::head_said` meets its contract: each field is the part before the first tab of what is left.
 -- Assumes nothing.
 use borrow.Author.Rules.{rules}
-use Rattle.text.specs.Cut.{pastTabs, field}
-use Rattle.fields.specs.Fields.{hasShape}
+use Rattle.text.specs.Cut.{past_tabs, field}
+use Rattle.fields.specs.Fields.{has_shape}
 use Rattle.text.proofs.Shape.{fields-are}
-use Rattle.tasks.specs.Said.{headSaid}
+use Rattle.tasks.specs.Said.{head_said}
 use Rattle.tasks.proofs.head_said.Statement.{statement}
 use Rattle.tasks.proofs.head_said.Tie as tie
 
 returns : tie.Need-returns
-unfolding headSaid hasShape field pastTabs
+unfolding head_said has_shape field past_tabs
 returns c =
     let a1 = c.before in
     let a2 = a1.before in

@@ -2,15 +2,15 @@
 -- Assumes nothing.
 use borrow.Author.Rules.{rules}
 use mathlib.Core.Path.{◌∙◌}
-use Rattle.text.specs.Cut.{pastTabs, field}
-use Rattle.fields.specs.Fields.{hasShape}
+use Rattle.text.specs.Cut.{past_tabs, field}
+use Rattle.fields.specs.Fields.{has_shape}
 use Rattle.text.proofs.Shape.{fields-are}
-use Rattle.tasks.specs.Said.{taskSaid}
+use Rattle.tasks.specs.Said.{task_said}
 use Rattle.tasks.proofs.task_said.Statement.{statement}
 use Rattle.tasks.proofs.task_said.Tie as tie
 
 returns : tie.Need-returns
-unfolding taskSaid hasShape field pastTabs
+unfolding task_said has_shape field past_tabs
 returns c =
     let a1 = c.before in
     let a2 = a1.before in

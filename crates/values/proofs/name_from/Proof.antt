@@ -8,7 +8,7 @@ use lib.ListN.{length, take, get_or, length-set}
 use lib.Seq.{take_all}
 use Rattle.demand.specs.Positions.{run, between}
 use Rattle.verdicts.proofs.Lists.{filled_more}
-use Rattle.values.specs.Values.{taskFrom}
+use Rattle.values.specs.Values.{task_from}
 use Rattle.values.proofs.name_from.Statement.{statement}
 use Rattle.values.proofs.name_from.Tie as tie
 
@@ -34,7 +34,7 @@ loop-again c =
     )
 
 returns : tie.Need-returns invariant-loop decreases-loop
-unfolding taskFrom
+unfolding task_from
 returns c =
     let at-loop = c.before in
     let all : at-loop.loop.k ≡ 12 = omega arith in

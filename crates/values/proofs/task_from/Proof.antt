@@ -1,12 +1,12 @@
 -- `values::task_from` meets its contract. Assumes nothing.
 use borrow.Author.Rules.{rules}
-use Rattle.values.specs.Values.{taskFrom}
+use Rattle.values.specs.Values.{task_from}
 use Rattle.values.proofs.Rest.{rest_of}
 use Rattle.values.proofs.task_from.Statement.{statement}
 use Rattle.values.proofs.task_from.Tie as tie
 
 returns : tie.Need-returns
-unfolding taskFrom
+unfolding task_from
 returns c =
     rw (c.before.before.before.before.before.before.before.name-from.ensures, c.before.at.ensures, c.at2.ensures, rest_of c.before.before.before.before.before.before.before.before.before.before.args.numbers.now 17)
 

@@ -2,7 +2,7 @@
 use native.Mathlib.Omega.{arith}
 use borrow.Author.Rules.{rules}
 use Rattle.writer.proofs.Writes.{◌then◌, reading}
-use Rattle.verdicts.specs.Rows.{answersIn}
+use Rattle.verdicts.specs.Rows.{answers_in}
 use Rattle.verdicts.proofs.Parts.{verdict-parts}
 use Rattle.verdicts.proofs.put_verdict_line.Statement.{statement}
 use Rattle.verdicts.proofs.put_verdict_line.Tie as tie
@@ -30,7 +30,7 @@ returns c =
     let told = letter.before.before in
     let start = told.before.before in
     let told-words = rw told.verdicts-on.ensures at words.put-verdicts.ensures.0 in
-    (reading (verdict-parts start.args.n (answersIn start.args.rows)) (letter.put_byte.ensures then told-words then end.put-byte2.ensures), omega arith)
+    (reading (verdict-parts start.args.n (answers_in start.args.rows)) (letter.put_byte.ensures then told-words then end.put-byte2.ensures), omega arith)
 
 pub put-verdict-line-spec : {M : Type 1} → statement M
 put-verdict-line-spec =

@@ -8,16 +8,16 @@ use native.Mathlib.Omega.{arith}
 use borrow.Author.Rules.{rules}
 use lib.ListN.{length, take, get_or}
 use lib.Seq.{take_all}
-use Rattle.writer.specs.Text.{afterTab}
+use Rattle.writer.specs.Text.{after_tab}
 use Rattle.writer.specs.Wrote.{Wrote}
-use Rattle.verdicts.specs.Verdicts.{yesNo}
-use Rattle.writer.proofs.Writes.{◌then◌, nothing, reading, flatMap-take}
+use Rattle.verdicts.specs.Verdicts.{yes_no}
+use Rattle.writer.proofs.Writes.{◌then◌, nothing, reading, flat_map-take}
 use Rattle.verdicts.proofs.Parts.{word-short}
 use Rattle.verdicts.proofs.put_verdicts.Statement.{statement}
 use Rattle.verdicts.proofs.put_verdicts.Tie as tie
 
 abbrev invariant-loop : tie.invariant-loop
-invariant-loop out₀ at told next₀ m₀ out next m = Wrote out₀ at (flat_map (λ yes. afterTab (yesNo yes)) (take m told.yes)) out next × (next ≤ at + 4 * m) × (m ≤ 6) × (length out ≡ length out₀)
+invariant-loop out₀ at told next₀ m₀ out next m = Wrote out₀ at (flat_map (λ yes. after_tab (yes_no yes)) (take m told.yes)) out next × (next ≤ at + 4 * m) × (m ≤ 6) × (length out ≡ length out₀)
 
 abbrev decreases-loop : tie.decreases-loop
 decreases-loop out₀ at told next₀ m₀ out next m = 6 - m
@@ -46,7 +46,7 @@ loop-again c =
     let wrote = c.before.before.put-yes-no in
     let at-loop = c.before.before.before.before.before.before in
     let told = at-loop.before.before.args.t3.yes in (
-      reading (flatMap-take (λ yes. afterTab (yesNo yes)) told at-loop.loop.m false (omega (arith, six at-loop.before.before))) (at-loop.loop.invariant.0 then wrote.ensures),
+      reading (flat_map-take (λ yes. after_tab (yes_no yes)) told at-loop.loop.m false (omega (arith, six at-loop.before.before))) (at-loop.loop.invariant.0 then wrote.ensures),
       omega (arith, wrote.ensures.next, word-short (get_or told at-loop.loop.m false)),
       omega arith,
       wrote.auto.0 ∙ at-loop.loop.invariant.3,

@@ -6,13 +6,13 @@ use native.Mathlib.Omega.{arith}
 use borrow.Author.Rules.{rules}
 use Rattle.demand.specs.Positions.{run, fold, methods}
 use Rattle.verdicts.specs.Verdicts.{verdict}
-use Rattle.verdicts.specs.Rows.{answersIn}
+use Rattle.verdicts.specs.Rows.{answers_in}
 use Rattle.verdicts.proofs.Parts.{verdicts-more}
 use Rattle.verdicts.proofs.verdicts_on.Statement.{statement}
 use Rattle.verdicts.proofs.verdicts_on.Tie as tie
 
 abbrev invariant-loop : tie.invariant-loop
-invariant-loop n rows all₀ i₀ all i = (all.yes ≡ map (λ m. verdict i (answersIn rows m)) methods) × (i ≤ n)
+invariant-loop n rows all₀ i₀ all i = (all.yes ≡ map (λ m. verdict i (answers_in rows m)) methods) × (i ≤ n)
 
 abbrev decreases-loop : tie.decreases-loop
 decreases-loop n rows all₀ i₀ all i = n - i
@@ -40,7 +40,7 @@ loop-again : tie.Need-loop-preserved invariant-loop decreases-loop
 loop-again c =
     let at-loop = c.before.before.before in
     let rows = at-loop.before.args.t1 in
-    (c.with_row.ensures ∙ verdicts-more at-loop.loop.all.yes (answersIn rows) at-loop.loop.i at-loop.loop.invariant.0, omega arith)
+    (c.with_row.ensures ∙ verdicts-more at-loop.loop.all.yes (answers_in rows) at-loop.loop.i at-loop.loop.invariant.0, omega arith)
 
 returns : tie.Need-returns invariant-loop decreases-loop
 returns c =

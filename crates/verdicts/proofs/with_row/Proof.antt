@@ -9,14 +9,14 @@ use lib.ListN.{length, take, get_or, length-set}
 use lib.Seq.{take_all}
 use Rattle.demand.specs.declared.Row.{Row}
 use Rattle.demand.specs.Positions.{run, between}
-use Rattle.verdicts.specs.Verdicts.{hasResponse}
-use Rattle.verdicts.specs.Rows.{answerUnder}
+use Rattle.verdicts.specs.Verdicts.{has_response}
+use Rattle.verdicts.specs.Rows.{answer_under}
 use Rattle.verdicts.proofs.Lists.{filled_more, methods-are}
 use Rattle.verdicts.proofs.with_row.Statement.{statement}
 use Rattle.verdicts.proofs.with_row.Tie as tie
 
 abbrev told : List Bool → Row → ℕ → Bool
-told so_far row m = get_or so_far m false && hasResponse (answerUnder row m)
+told so_far row m = get_or so_far m false && has_response (answer_under row m)
 
 abbrev invariant-loop : tie.invariant-loop
 invariant-loop so_far row yes₀ m₀ yes' m = (take m yes' ≡ map (told so_far.yes row) (between 0 m)) × (length yes' ≡ 6) × (m ≤ 6)

@@ -2,7 +2,7 @@
 -- Assumes nothing.
 use mathlib.Core.Path.{ap, ◌∙◌}
 use Rattle.writer.proofs.Writes.{counted}
-use Rattle.crpd.specs.Codes.{writtenCode}
+use Rattle.crpd.specs.Codes.{written_code}
 use Rattle.crpd.proofs.Small.{delivered-small}
 use borrow.Author.Rules.{rules}
 use Rattle.crpd.proofs.exported.crpd_print.Statement.{statement}
@@ -31,7 +31,7 @@ returns c =
     let d = c.before.before.before.deliver.ensures in
     let e = c.before.before.before.before.before.before.print.ensures.front in
     record {
-      answer-is = c.written-code.ensures ∙ ap writtenCode (rw e at d.answer);
+      answer-is = c.written-code.ensures ∙ ap written_code (rw e at d.answer);
       buffer-is = rw e at d.buffer;
     }
 

@@ -3,7 +3,7 @@ use mathlib.Core.Path.{ap}
 use Prim.Native.Nat.{ℕ, ◌≤◌}
 use native.Mathlib.Omega.{arith}
 use lib.ListN.{length}
-use Rattle.writer.specs.Text.{spelled, afterTab}
+use Rattle.writer.specs.Text.{spelled, after_tab}
 use Rattle.writer.proofs.Spelling.{spelled-short}
 use Rattle.writer.proofs.Writes.{◌then◌, reading}
 use borrow.Author.Rules.{rules}
@@ -29,7 +29,7 @@ returns c =
     let victim = end.before.before.before.before in
     let number = victim.before.before.before.before in
     let count = number.before in (
-      reading (ap (λ (n : ℕ). afterTab (spelled n)) count.count.ensures) number.put-number-field.ensures
+      reading (ap (λ (n : ℕ). after_tab (spelled n)) count.count.ensures) number.put-number-field.ensures
           then victim.put-victim.ensures.0 then end.put_byte.ensures,
       omega (arith, number.put-number-field.ensures.next, end.put_byte.ensures.next, counted count),
     )

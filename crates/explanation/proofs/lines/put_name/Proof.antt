@@ -4,7 +4,7 @@ use Prim.Native.Nat.{◌≤◌}
 use native.Mathlib.Omega.{arith}
 use lib.ListN.{length}
 use Rattle.text.proofs.Parts.{up_to_fits}
-use Rattle.writer.specs.Text.{afterTab}
+use Rattle.writer.specs.Text.{after_tab}
 use Rattle.writer.proofs.Writes.{reading}
 use borrow.Author.Rules.{rules}
 use Rattle.explanation.proofs.lines.put_name.Statement.{statement}
@@ -21,7 +21,7 @@ named c =
 returns : tie.Need-returns
 returns c =
     let field = c.before.before in
-    (reading (ap afterTab field.before.before2.ensures) field.put-field.ensures, omega (arith, field.put-field.ensures.next, named field.before))
+    (reading (ap after_tab field.before.before2.ensures) field.put-field.ensures, omega (arith, field.put-field.ensures.next, named field.before))
 
 pub put-name-spec : {M : Type 1} → statement M
 put-name-spec =

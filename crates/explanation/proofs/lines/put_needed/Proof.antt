@@ -4,13 +4,13 @@ use Prim.Native.Nat.{ℕ}
 use native.Mathlib.Omega.{arith}
 use lib.ListN.{length}
 use Rattle.demand.specs.declared.Response.{Response}
-use Rattle.explanation.specs.Explanation.{neededText}
+use Rattle.explanation.specs.Explanation.{needed_text}
 use borrow.Author.Rules.{rules}
 use Rattle.explanation.proofs.lines.put_needed.Statement.{statement}
 use Rattle.explanation.proofs.lines.put_needed.Tie as tie
 
 abbrev width : Response → ℕ
-width a = length (neededText a)
+width a = length (needed_text a)
 
 returns : tie.Need-returns
 returns c = let number = c.before.before in rw number.before.before.before.needed.given.1 number.put-number-field.ensures

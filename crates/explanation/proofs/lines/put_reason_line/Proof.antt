@@ -3,8 +3,8 @@ use mathlib.Core.Path.{ap}
 use Prim.Native.Nat.{ℕ, ◌≤◌}
 use native.Mathlib.Omega.{arith}
 use lib.ListN.{length}
-use Rattle.tasks.specs.Tasks.{nameText}
-use Rattle.writer.specs.Text.{spelled, afterTab}
+use Rattle.tasks.specs.Tasks.{name_text}
+use Rattle.writer.specs.Text.{spelled, after_tab}
 use Rattle.writer.proofs.Writes.{◌then◌, reading}
 use Rattle.explanation.proofs.Parts.{nine-digits, reason-parts}
 use borrow.Author.Rules.{rules}
@@ -26,9 +26,9 @@ returns c =
     let activated = number.before in
     let head = activated.before.before.before.before in
     let a = head.before.before.before.before.args in (
-      reading (reason-parts (λ _. nameText a.victim) a.r a.task a.charge)
+      reading (reason-parts (λ _. name_text a.victim) a.r a.task a.charge)
           (head.put-head.ensures.0
-          then reading (ap (λ (n : ℕ). afterTab (spelled n)) activated.activations.ensures.0) number.put-number-field.ensures
+          then reading (ap (λ (n : ℕ). after_tab (spelled n)) activated.activations.ensures.0) number.put-number-field.ensures
           then charge.put-charge.ensures.0),
       omega (arith, number.put-number-field.ensures.next, short activated),
     )

@@ -7,23 +7,23 @@ use native.Mathlib.Omega.{arith}
 use borrow.Author.Rules.{rules}
 use lib.ListN.{length}
 use Rattle.demand.specs.Positions.{run, between}
-use Rattle.accesses.specs.Accesses.{addedBy}
+use Rattle.accesses.specs.Accesses.{added_by}
 use Rattle.table.specs.Tasks.{at}
-use Rattle.costs.specs.Costs.{reloadsIn, reloadsWith, ucbOf, ecbOf, chargeUnder}
+use Rattle.costs.specs.Costs.{reloads_in, reloads_with, ucb_of, ecb_of, charge_under}
 use Rattle.costs.proofs.CostLaws.{with-most}
 use Rattle.costs.proofs.BoardLaws.{charge-is}
 use Rattle.writer.specs.Wrote.{Wrote}
 use Rattle.writer.proofs.Writes.{◌then◌, nothing, reading}
-use Rattle.verdicts.proofs.Lists.{flatMap-more}
-use Rattle.explanation.specs.Explanation.{name_at, reasonLine}
-use Rattle.explanation.specs.Explained.{victimIn}
+use Rattle.verdicts.proofs.Lists.{flat_map-more}
+use Rattle.explanation.specs.Explanation.{name_at, reason_line}
+use Rattle.explanation.specs.Explained.{victim_in}
 use Rattle.explanation.proofs.Parts.{reason-line-is, victim-below, task-at, task-timed}
 use Rattle.explanation.proofs.lines.put_reason_lines.Statement.{statement}
 use Rattle.explanation.proofs.lines.put_reason_lines.Tie as tie
 
 abbrev invariant-loop : tie.invariant-loop
 invariant-loop out₀ from board need i r table row next₀ j₀ out next j =
-    Wrote out₀ from (flat_map (λ k. reasonLine (name_at table) r (at table k) (chargeUnder table need.blocker need.method i k)) (between 0 j)) out next
+    Wrote out₀ from (flat_map (λ k. reason_line (name_at table) r (at table k) (charge_under table need.blocker need.method i k)) (between 0 j)) out next
     × (next ≤ from + 43 * j) × (j ≤ i) × (length out ≡ length out₀)
 
 abbrev decreases-loop : tie.decreases-loop
@@ -64,7 +64,7 @@ module _ (c : tie.After-victim-of invariant-loop decreases-loop) where
   abbrev j : ℕ
   j = c.before.before.before.before.loop.j
 
-  charge-at : c.before.charge-at.result ≡ chargeUnder start.args.t3 start.args.need.blocker start.args.need.method start.args.i j
+  charge-at : c.before.charge-at.result ≡ charge_under start.args.t3 start.args.need.blocker start.args.need.method start.args.i j
   charge-at =
       c.before.charge-at.ensures
       ∙ c.before.before.before.before.before.join.ensures.each j zero-le (omega arith)
@@ -72,16 +72,16 @@ module _ (c : tie.After-victim-of invariant-loop decreases-loop) where
 
   held : c.victim-of.result < start.args.t3.count
   held =
-      let below = victim-below (ucbOf start.args.t3) (ecbOf start.args.t3) (addedBy start.args.need.blocker j) start.args.need.blocker.task start.args.t3.count start.args.need.method start.args.i j
+      let below = victim-below (ucb_of start.args.t3) (ecb_of start.args.t3) (added_by start.args.need.blocker j) start.args.need.blocker.task start.args.t3.count start.args.need.method start.args.i j
       (omega arith) start.pre.2.asked.held start.pre.2.blocker.task in
-      omega (arith, c.victim-of.ensures ∙ ap (victimIn j) charge-at)
+      omega (arith, c.victim-of.ensures ∙ ap (victim_in j) charge-at)
 
   few : start.args.t3.count ≤ 32
   few = start.pre.2.asked.accepted.few
 
-  reloads-few : reloadsIn c.before.charge-at.result ≤ 2048
-  unfolding reloadsWith
-  reloads-few = rw charge-at (with-most (ucbOf start.args.t3) (ecbOf start.args.t3) start.args.i j _ start.args.need.blocker.task start.args.need.method)
+  reloads-few : reloads_in c.before.charge-at.result ≤ 2048
+  unfolding reloads_with
+  reloads-few = rw charge-at (with-most (ucb_of start.args.t3) (ecb_of start.args.t3) start.args.i j _ start.args.need.blocker.task start.args.need.method)
 
 put-reason-line-requires : tie.Need-put-reason-line-requires invariant-loop decreases-loop
 put-reason-line-requires c κs =
@@ -101,7 +101,7 @@ loop-again c =
     (charge-at v)
     (task-at a.t3 v.victim-of.result (held v) ∙ ap (at a.t3) v.victim-of.ensures)
     in (
-      reading (flatMap-more (λ k. reasonLine (name_at a.t3) a.r (at a.t3 k) (chargeUnder a.t3 a.need.blocker a.need.method a.i k)) (j v))
+      reading (flat_map-more (λ k. reason_line (name_at a.t3) a.r (at a.t3 k) (charge_under a.t3 a.need.blocker a.need.method a.i k)) (j v))
           (at-loop.loop.invariant.0 then reading line wrote.ensures.0),
       omega (arith, wrote.ensures.1),
       omega arith,

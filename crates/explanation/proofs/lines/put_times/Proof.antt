@@ -2,7 +2,7 @@
 use Prim.Native.Nat.{◌≤◌}
 use native.Mathlib.Omega.{arith}
 use lib.ListN.{length}
-use Rattle.tasks.specs.Tasks.{limitOf}
+use Rattle.tasks.specs.Tasks.{limit_of}
 use Rattle.writer.specs.Text.{spelled}
 use Rattle.writer.proofs.Writes.{◌then◌}
 use Rattle.explanation.proofs.Parts.{nine-digits}
@@ -11,7 +11,7 @@ use Rattle.explanation.proofs.lines.put_times.Statement.{statement}
 use Rattle.explanation.proofs.lines.put_times.Tie as tie
 
 module _ (c : tie.Start) where
-  limited : length (spelled (limitOf c.args.task)) ≤ 9
+  limited : length (spelled (limit_of c.args.task)) ≤ 9
   limited = let timed = c.requires.1.0 in nine-digits _ (omega (arith, timed.deadline, timed.period-most))
 
   worked : length (spelled c.args.task.work.0) ≤ 9

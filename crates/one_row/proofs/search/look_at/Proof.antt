@@ -10,7 +10,7 @@ use Rattle.sets.specs.declared.CacheSet.{CacheSet}
 use Rattle.sets.specs.Sets.{◌∩◌, size}
 use Rattle.sets.specs.Words.{members}
 use Rattle.costs.specs.Gather.{hit}
-use Rattle.one_row.specs.Shared.{sharedOn, AtMost, ahead_of}
+use Rattle.one_row.specs.Shared.{shared_on, AtMost, ahead_of}
 use Rattle.one_row.proofs.AheadLaws.{ahead-is, ahead-passed, bound-put}
 use Rattle.one_row.proofs.search.look_at.Statement.{statement}
 use Rattle.one_row.proofs.search.look_at.Tie as tie
@@ -27,7 +27,7 @@ module _ (c : tie.After-is-ahead2) where
   start = c.before.before.before.before.before.before.before.before
 
   abbrev shared : ℕ → ℕ
-  shared = sharedOn start.args.board.now (members start.args.ecbs)
+  shared = shared_on start.args.board.now (members start.args.ecbs)
 
   looked : c.before.size.result.0 ≡ shared start.args.k
   looked =

@@ -4,13 +4,13 @@ use Prim.Native.Nat.{ℕ}
 use native.Mathlib.Omega.{arith}
 use lib.ListN.{length}
 use Rattle.demand.specs.declared.Response.{Response}
-use Rattle.report.specs.Report.{answerText}
+use Rattle.report.specs.Report.{answer_text}
 use borrow.Author.Rules.{rules}
 use Rattle.report.proofs.lines.put_answer.Statement.{statement}
 use Rattle.report.proofs.lines.put_answer.Tie as tie
 
 abbrev width : Response → ℕ
-width a = length (answerText a)
+width a = length (answer_text a)
 
 enum-known-answer : tie.Need-enum-known-answer
 enum-known-answer c = search rules

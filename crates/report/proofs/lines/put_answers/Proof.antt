@@ -6,25 +6,25 @@ use native.Mathlib.Omega.{arith}
 use borrow.Author.Rules.{rules}
 use lib.ListN.{length}
 use Rattle.demand.specs.Positions.{run, between}
-use Rattle.writer.specs.Text.{afterTab}
+use Rattle.writer.specs.Text.{after_tab}
 use Rattle.writer.specs.Wrote.{Wrote}
 use Rattle.writer.proofs.Writes.{◌then◌, nothing, reading}
-use Rattle.report.specs.Report.{answerText}
-use Rattle.verdicts.specs.Rows.{answerUnder}
-use Rattle.verdicts.proofs.Lists.{flatMap-more, methods-are}
+use Rattle.report.specs.Report.{answer_text}
+use Rattle.verdicts.specs.Rows.{answer_under}
+use Rattle.verdicts.proofs.Lists.{flat_map-more, methods-are}
 use Rattle.report.proofs.Parts.{answer-short}
 use Rattle.report.proofs.lines.put_answers.Statement.{statement}
 use Rattle.report.proofs.lines.put_answers.Tie as tie
 
 abbrev invariant-loop : tie.invariant-loop
-invariant-loop out₀ at row next₀ m₀ out next m = Wrote out₀ at (flat_map (λ k. afterTab (answerText (answerUnder row k))) (between 0 m)) out next × (next ≤ at + 10 * m) × (m ≤ 6) × (length out ≡ length out₀)
+invariant-loop out₀ at row next₀ m₀ out next m = Wrote out₀ at (flat_map (λ k. after_tab (answer_text (answer_under row k))) (between 0 m)) out next × (next ≤ at + 10 * m) × (m ≤ 6) × (length out ≡ length out₀)
 
 abbrev decreases-loop : tie.decreases-loop
 decreases-loop out₀ at row next₀ m₀ out next m = 6 - m
 
 -- the next answer is short
-short : (c : tie.In-loop invariant-loop decreases-loop) → length (answerText (answerUnder c.before.before.before.args.t3 c.before.loop.m)) ≤ 9
-short c = answer-short (answerUnder c.before.before.before.args.t3 c.before.loop.m) (c.before.before.before.requires.1 c.before.loop.m (omega arith))
+short : (c : tie.In-loop invariant-loop decreases-loop) → length (answer_text (answer_under c.before.before.before.args.t3 c.before.loop.m)) ≤ 9
+short c = answer-short (answer_under c.before.before.before.args.t3 c.before.loop.m) (c.before.before.before.requires.1 c.before.loop.m (omega arith))
 
 loop-holds : tie.Need-loop-init invariant-loop decreases-loop
 unfolding run flat_map
@@ -51,7 +51,7 @@ loop-again c =
     let in-loop = c.before.before.before.before.before in
     let at-loop = in-loop.before in
     let row = at-loop.before.before.args.t3 in (
-      reading (flatMap-more (λ k. afterTab (answerText (answerUnder row k))) at-loop.loop.m) (at-loop.loop.invariant.0 then wrote.ensures),
+      reading (flat_map-more (λ k. after_tab (answer_text (answer_under row k))) at-loop.loop.m) (at-loop.loop.invariant.0 then wrote.ensures),
       omega (arith, wrote.ensures.next, short in-loop),
       omega arith,
       wrote.auto.0 ∙ at-loop.loop.invariant.3,

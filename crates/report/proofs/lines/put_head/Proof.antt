@@ -5,8 +5,8 @@ use native.Mathlib.Omega.{arith}
 use borrow.Author.Rules.{rules}
 use lib.ListN.{length}
 use Rattle.text.proofs.Parts.{up_to_fits}
-use Rattle.tasks.specs.Tasks.{limitOf}
-use Rattle.writer.specs.Text.{spelled, afterTab}
+use Rattle.tasks.specs.Tasks.{limit_of}
+use Rattle.writer.specs.Text.{spelled, after_tab}
 use Rattle.writer.proofs.Spelling.{spelled-short}
 use Rattle.writer.proofs.Writes.{◌then◌, reading}
 use Rattle.report.proofs.lines.put_head.Statement.{statement}
@@ -21,8 +21,8 @@ named c =
     let start = c.before.before.before.before.before.before.before.before.before in
     omega (arith, ap length c.before2.ensures, up_to_fits 0 start.args.task.name.bytes, twelve start)
 
-limited : (c : tie.Start) → length (spelled (limitOf c.args.task)) ≤ 9
-limited c = spelled-short 8 (limitOf c.args.task) (omega arith)
+limited : (c : tie.Start) → length (spelled (limit_of c.args.task)) ≤ 9
+limited c = spelled-short 8 (limit_of c.args.task) (omega arith)
 
 put-byte-requires : tie.Need-put-byte-requires
 put-byte-requires c κs = search rules
@@ -53,7 +53,7 @@ returns c =
     let name = limit.before.before.before.before.before in
     let letter = name.before.before.before.before.before.before in
     let start = letter.before.before.before.before in
-    let named-field = reading (ap afterTab name.before.before2.ensures) name.put-field.ensures in (
+    let named-field = reading (ap after_tab name.before.before2.ensures) name.put-field.ensures in (
       letter.put_byte.ensures then named-field then limit.put-number-field.ensures,
       omega (arith, letter.put_byte.ensures.next, name.put-field.ensures.next, limit.put-number-field.ensures.next, named name.before, limited start),
     )

@@ -2,7 +2,7 @@
 use native.Mathlib.Omega.{arith}
 use borrow.Author.Rules.{rules}
 use Rattle.writer.proofs.Writes.{◌then◌, reading}
-use Rattle.verdicts.specs.Rows.{answerUnder}
+use Rattle.verdicts.specs.Rows.{answer_under}
 use Rattle.report.proofs.Parts.{response-parts}
 use Rattle.report.proofs.lines.put_response_line.Statement.{statement}
 use Rattle.report.proofs.lines.put_response_line.Tie as tie
@@ -25,7 +25,7 @@ returns c =
     let answers = end.before.before.before.before in
     let head = answers.before.before.before.before in
     let start = head.before.before.before in
-    (reading (response-parts start.args.task (answerUnder start.args.row)) (head.put-head.ensures.0 then answers.put-answers.ensures.0 then end.put_byte.ensures), omega arith)
+    (reading (response-parts start.args.task (answer_under start.args.row)) (head.put-head.ensures.0 then answers.put-answers.ensures.0 then end.put_byte.ensures), omega arith)
 
 pub put-response-line-spec : {M : Type 1} → statement M
 put-response-line-spec =

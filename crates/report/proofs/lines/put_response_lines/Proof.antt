@@ -12,14 +12,14 @@ use Rattle.tasks.specs.Tasks.{blank}
 use Rattle.table.specs.Tasks.{at}
 use Rattle.writer.specs.Wrote.{Wrote}
 use Rattle.writer.proofs.Writes.{◌then◌, nothing, reading}
-use Rattle.report.specs.Report.{responseLine}
-use Rattle.verdicts.specs.Rows.{answersIn}
-use Rattle.verdicts.proofs.Lists.{flatMap-more}
+use Rattle.report.specs.Report.{response_line}
+use Rattle.verdicts.specs.Rows.{answers_in}
+use Rattle.verdicts.proofs.Lists.{flat_map-more}
 use Rattle.report.proofs.lines.put_response_lines.Statement.{statement}
 use Rattle.report.proofs.lines.put_response_lines.Tie as tie
 
 abbrev invariant-loop : tie.invariant-loop
-invariant-loop out₀ table rows n next₀ i₀ out next i = Wrote out₀ 0 (flat_map (λ k. responseLine (at table k) (λ m. answersIn rows m k)) (between 0 i)) out next × (next ≤ 85 * i) × (i ≤ n) × (length out ≡ length out₀)
+invariant-loop out₀ table rows n next₀ i₀ out next i = Wrote out₀ 0 (flat_map (λ k. response_line (at table k) (λ m. answers_in rows m k)) (between 0 i)) out next × (next ≤ 85 * i) × (i ≤ n) × (length out ≡ length out₀)
 
 abbrev decreases-loop : tie.decreases-loop
 decreases-loop out₀ table rows n next₀ i₀ out next i = n - i
@@ -68,7 +68,7 @@ loop-again c =
     let in-loop = c.before.before.before.before.before.before in
     let at-loop = in-loop.before in
     let a = at-loop.before.before.args in (
-      reading (flatMap-more (λ k. responseLine (at a.t2 k) (λ m. answersIn a.t3 m k)) at-loop.loop.i) (at-loop.loop.invariant.0 then (rw (← task-at in-loop) at wrote.ensures.0)),
+      reading (flat_map-more (λ k. response_line (at a.t2 k) (λ m. answers_in a.t3 m k)) at-loop.loop.i) (at-loop.loop.invariant.0 then (rw (← task-at in-loop) at wrote.ensures.0)),
       omega (arith, wrote.ensures.1),
       omega arith,
       wrote.auto.0 ∙ at-loop.loop.invariant.3,

@@ -15,7 +15,7 @@ use lib.Seq.{drop-cons, drop-length, drop-drop, length-take-le}
 use lib.Arith.{digits_lt, lt-one}
 use lib.Dec.{leb, lit<}
 use borrow.Author.Tests.{leb-true}
-use Rattle.hex.specs.Hex.{hexDigit, readHex}
+use Rattle.hex_digits.specs.Hex.{hex_digit, read_hex}
 
 -- ---- a digit and its byte
 
@@ -30,18 +30,18 @@ in-run low high b e =
     (leb-true low b w.0, leb-true b high w.1)
 
 -- the two runs of bytes that are digits
-digit-byte : (b d : ℕ) → hexDigit b ≡ some d → (((48 ≤ b) × (b ≤ 57)) × (b - 48 ≡ d)) ⊎ (((97 ≤ b) × (b ≤ 102)) × (b - 97 + 10 ≡ d))
-unfolding hexDigit
+digit-byte : (b d : ℕ) → hex_digit b ≡ some d → (((48 ≤ b) × (b ≤ 57)) × (b - 48 ≡ d)) ⊎ (((97 ≤ b) × (b ≤ 102)) × (b - 97 + 10 ≡ d))
+unfolding hex_digit
 digit-byte b d e =
     ⊎_elim
     (λ w. inl (in-run 48 57 b w.0, w.1))
     (λ w. inr (in-run 97 102 b w.0, w.1))
     (either (leb 48 b && leb b 57) (leb 97 b && leb b 102) (b - 48) (b - 97 + 10) d e)
 
-pub digit_lt : (b d : ℕ) → hexDigit b ≡ some d → d < 16
+pub digit_lt : (b d : ℕ) → hex_digit b ≡ some d → d < 16
 digit_lt b d e = ⊎_elim (λ w. omega arith) (λ w. omega arith) (digit-byte b d e)
 
-digit-inj : (b b' d : ℕ) → hexDigit b ≡ some d → hexDigit b' ≡ some d → b ≡ b'
+digit-inj : (b b' d : ℕ) → hex_digit b ≡ some d → hex_digit b' ≡ some d → b ≡ b'
 digit-inj b b' d p q =
     ⊎_elim
     (λ w. ⊎_elim (λ v. omega arith) (λ v. omega arith) (digit-byte b' d q))
@@ -56,11 +56,11 @@ digits_more {n} {v} i k h l =
     times : 4 * (i + k) ≡ 4 * i + 4 * k
     times = omega arith
 
-pub read-lt : (f : List ℕ) (m n i : ℕ) → m < 2 ^ (4 * i) → readHex m f ≡ some n → n < 2 ^ (4 * (i + length f))
-unfolding readHex
+pub read-lt : (f : List ℕ) (m n i : ℕ) → m < 2 ^ (4 * i) → read_hex m f ≡ some n → n < 2 ^ (4 * (i + length f))
+unfolding read_hex
 read-lt [] m n i h e = let s : m ≡ n = cc in subst (λ (x : ℕ). x < 2 ^ (4 * (i + 0))) s (subst (λ (x : ℕ). m < 2 ^ (4 * x)) (omega arith) h)
 read-lt (b ∷ f) m n i h e =
-    let u = (bind-eq-some_iff (hexDigit b) (λ d. readHex (m * 16 + d) f)).0 e in
+    let u = (bind-eq-some_iff (hex_digit b) (λ d. read_hex (m * 16 + d) f)).0 e in
     subst (λ (x : ℕ). n < 2 ^ (4 * x)) (omega arith) (read-lt f (m * 16 + u.0) n (i + 1) (digits_more i 1 h (digit_lt b u.0 u.1)) u.2)
 
 in-turn : (o : Option ℕ) (k k' l : ℕ → Option ℕ) → ((d : ℕ) → k d ≡ bind (k' d) l) → bind o k ≡ bind (bind o k') l
@@ -69,13 +69,13 @@ in-turn (some d) k k' l e = e d
 in-turn none k k' l e = refl
 
 -- digits are read by themselves, from m: the number n before them moves four bits up for each
-pub read-cut : (x y : List ℕ) (n m : ℕ) → readHex (n + m) (x ++ y) ≡ bind (readHex m x) (λ v. readHex (n * 2 ^ (4 * length x) + v) y)
-unfolding readHex bind
-read-cut [] y n m = ap (λ (s : ℕ). readHex s y) (omega arith)
+pub read-cut : (x y : List ℕ) (n m : ℕ) → read_hex (n + m) (x ++ y) ≡ bind (read_hex m x) (λ v. read_hex (n * 2 ^ (4 * length x) + v) y)
+unfolding read_hex bind
+read-cut [] y n m = ap (λ (s : ℕ). read_hex s y) (omega arith)
 read-cut (b ∷ x) y n m =
-    in-turn (hexDigit b) _ (λ d. readHex (m * 16 + d) x) _
-    (λ d. ap (λ (s : ℕ). readHex s (x ++ y)) (omega arith) ∙ read-cut x y (n * 16) (m * 16 + d)
-    ∙ ap (λ (s : ℕ). bind (readHex (m * 16 + d) x) (λ v. readHex (s + v) y)) weight)
+    in-turn (hex_digit b) _ (λ d. read_hex (m * 16 + d) x) _
+    (λ d. ap (λ (s : ℕ). read_hex s (x ++ y)) (omega arith) ∙ read-cut x y (n * 16) (m * 16 + d)
+    ∙ ap (λ (s : ℕ). bind (read_hex (m * 16 + d) x) (λ v. read_hex (s + v) y)) weight)
   where
     weight : n * 16 * 2 ^ (4 * length x) ≡ n * 2 ^ (4 * suc (length x))
     weight = mul_assoc n 16 (2 ^ (4 * length x)) ∙ ap (λ (s : ℕ). n * s) (sym (pow-add 2 4 (4 * length x)) ∙ ap (λ (e : ℕ). 2 ^ e) (omega arith))
@@ -85,37 +85,37 @@ read-cut (b ∷ x) y n m =
 -- with i bytes of f read, n is their number: reading on from it gives what all of f gives
 pub record Reading (f : List ℕ) (n i : ℕ) : Type 0 where
   pub within : i ≤ length f
-  pub same : readHex n (drop i f) ≡ readHex 0 f
+  pub same : read_hex n (drop i f) ≡ read_hex 0 f
   pub small : n < 2 ^ (4 * i)
 
 pub begin : (f : List ℕ) → Reading f 0 0
 begin f = record { within = zero-le; same = refl; small = lit< tt }
 
 module _ {f : List ℕ} {n i : ℕ} (r : Reading f n i) where
-  pub ended : length f ≤ i → readHex 0 f ≡ some n
-  unfolding readHex
+  pub ended : length f ≤ i → read_hex 0 f ≡ some n
+  unfolding read_hex
   ended h =
       let e : i ≡ length f = omega (arith, r.within) in
-      sym r.same ∙ ap (λ (k : ℕ). readHex n (drop k f)) e ∙ ap (readHex n) (drop-length f)
+      sym r.same ∙ ap (λ (k : ℕ). read_hex n (drop k f)) e ∙ ap (read_hex n) (drop-length f)
 
   module _ (more : i < length f) where
-    next : readHex n (drop i f) ≡ bind (hexDigit (get_or f i 0)) (λ d. readHex (n * 16 + d) (drop (i + 1) f))
-    unfolding readHex
+    next : read_hex n (drop i f) ≡ bind (hex_digit (get_or f i 0)) (λ d. read_hex (n * 16 + d) (drop (i + 1) f))
+    unfolding read_hex
     next = rw (add-one, drop-cons f i 0)
 
-    pub no_digit : hexDigit (get_or f i 0) ≡ none → readHex 0 f ≡ none
+    pub no_digit : hex_digit (get_or f i 0) ≡ none → read_hex 0 f ≡ none
     unfolding bind
-    no_digit e = sym r.same ∙ next ∙ ap (λ (o : Option ℕ). bind o (λ d. readHex (n * 16 + d) (drop (i + 1) f))) e
+    no_digit e = sym r.same ∙ next ∙ ap (λ (o : Option ℕ). bind o (λ d. read_hex (n * 16 + d) (drop (i + 1) f))) e
 
     -- 15 digits at most are read before the last of a word
     pub room : length f ≤ 16 → n < 2 ^ 60
     room h = lt_of_lt_of_le r.small (pow_mono {j = 60} (omega arith))
 
-    pub one_more : (d : ℕ) → hexDigit (get_or f i 0) ≡ some d → Reading f (n * 16 + d) (i + 1)
+    pub one_more : (d : ℕ) → hex_digit (get_or f i 0) ≡ some d → Reading f (n * 16 + d) (i + 1)
     unfolding bind
     one_more d e = record {
       within = omega arith;
-      same = sym (next ∙ ap (λ (o : Option ℕ). bind o (λ d. readHex (n * 16 + d) (drop (i + 1) f))) e) ∙ r.same;
+      same = sym (next ∙ ap (λ (o : Option ℕ). bind o (λ d. read_hex (n * 16 + d) (drop (i + 1) f))) e) ∙ r.same;
       small = digits_more i 1 r.small (digit_lt (get_or f i 0) d e);
     }
 
@@ -142,23 +142,23 @@ module _ {f : List ℕ} {n i j : ℕ} (r : Reading f n i) (from : i ≡ j - 16) 
           let z : n ≡ 0 = lt-one (subst (λ (k : ℕ). n < 2 ^ (4 * k)) e r.small) in
           rw z (zero-mul (2 ^ (4 * (j - i))) ∙ sym (zero-mul (2 ^ 64)))
 
-  cut : readHex 0 f ≡ bind (readHex 0 (take (j - i) (drop i f))) (λ w. readHex (n * 2 ^ 64 + w) (drop j f))
+  cut : read_hex 0 f ≡ bind (read_hex 0 (take (j - i) (drop i f))) (λ w. read_hex (n * 2 ^ 64 + w) (drop j f))
   cut =
-      sym r.same ∙ ap₂ readHex (sym (add-zero n)) (sym (take-append-drop (j - i) (drop i f)))
+      sym r.same ∙ ap₂ read_hex (sym (add-zero n)) (sym (take-append-drop (j - i) (drop i f)))
       ∙ read-cut (take (j - i) (drop i f)) (drop (j - i) (drop i f)) n 0
-      ∙ ap₂ (λ (s : ℕ) (y : List ℕ). bind (readHex 0 (take (j - i) (drop i f))) (λ w. readHex (s + w) y))
+      ∙ ap₂ (λ (s : ℕ) (y : List ℕ). bind (read_hex 0 (take (j - i) (drop i f))) (λ w. read_hex (s + w) y))
       (ap (λ (k : ℕ). n * 2 ^ (4 * k)) long ∙ weight)
       (drop-drop (j - i) i f ∙ ap (λ (k : ℕ). drop k f) seam)
 
-  pub no_word : readHex 0 (take (j - i) (drop i f)) ≡ none → readHex 0 f ≡ none
+  pub no_word : read_hex 0 (take (j - i) (drop i f)) ≡ none → read_hex 0 f ≡ none
   unfolding bind
-  no_word e = cut ∙ ap (λ (o : Option ℕ). bind o (λ w. readHex (n * 2 ^ 64 + w) (drop j f))) e
+  no_word e = cut ∙ ap (λ (o : Option ℕ). bind o (λ w. read_hex (n * 2 ^ 64 + w) (drop j f))) e
 
-  pub word_more : (w : ℕ) → readHex 0 (take (j - i) (drop i f)) ≡ some w → Reading f (n * 2 ^ 64 + w) j
+  pub word_more : (w : ℕ) → read_hex 0 (take (j - i) (drop i f)) ≡ some w → Reading f (n * 2 ^ 64 + w) j
   unfolding bind
   word_more w e = record {
     within = to;
-    same = sym (cut ∙ ap (λ (o : Option ℕ). bind o (λ w. readHex (n * 2 ^ 64 + w) (drop j f))) e);
+    same = sym (cut ∙ ap (λ (o : Option ℕ). bind o (λ w. read_hex (n * 2 ^ 64 + w) (drop j f))) e);
     small = subst₂ (λ (s k : ℕ). s + w < 2 ^ (4 * k)) weight seam (digits_more i (j - i) r.small fits);
   }
     where
@@ -167,14 +167,14 @@ module _ {f : List ℕ} {n i j : ℕ} (r : Reading f n i) (from : i ≡ j - 16) 
 
 -- ---- one spelling: as many digits that say the same number are the same bytes
 
-pub read-inj : (f g : List ℕ) (a b n : ℕ) → length f ≡ length g → readHex a f ≡ some n → readHex b g ≡ some n → (a ≡ b) × (f ≡ g)
-unfolding readHex
+pub read-inj : (f g : List ℕ) (a b n : ℕ) → length f ≡ length g → read_hex a f ≡ some n → read_hex b g ≡ some n → (a ≡ b) × (f ≡ g)
+unfolding read_hex
 read-inj [] [] a b n l p q = (cc, refl)
 read-inj [] (y ∷ g) a b n l p q = absurd (omega arith)
 read-inj (x ∷ f) [] a b n l p q = absurd (omega arith)
 read-inj (x ∷ f) (y ∷ g) a b n l p q =
-    let u = (bind-eq-some_iff (hexDigit x) _).0 p in
-    let v = (bind-eq-some_iff (hexDigit y) _).0 q in
+    let u = (bind-eq-some_iff (hex_digit x) _).0 p in
+    let v = (bind-eq-some_iff (hex_digit y) _).0 q in
     let r = read-inj f g (a * 16 + u.0) (b * 16 + v.0) n (omega arith) u.2 v.2 in
     let s = same a b u.0 v.0 (digit_lt x u.0 u.1) (digit_lt y v.0 v.1) r.0 in
     (s.0, ap₂ (λ (z : ℕ) (zs : List ℕ). z ∷ zs) (digit-inj x y v.0 (u.1 ∙ ap some s.1) v.1) r.1)

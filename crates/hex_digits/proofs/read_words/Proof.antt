@@ -7,11 +7,11 @@ use mathlib.Core.Option.{Option}
 use native.Mathlib.Omega.{arith}
 use lib.ListN.{length}
 use borrow.Author.Rules.{rules}
-use Rattle.hex.specs.Hex.{wordSays}
-use Rattle.hex.specs.declared.Word.{Word}
-use Rattle.hex.proofs.HexLaws.{Reading, begin, ended, at-most-sixteen, no_word, word_more}
-use Rattle.hex.proofs.read_words.Statement.{statement}
-use Rattle.hex.proofs.read_words.Tie as tie
+use Rattle.hex_digits.specs.Hex.{word_says}
+use Rattle.hex_digits.specs.declared.Word.{Word}
+use Rattle.hex_digits.proofs.HexLaws.{Reading, begin, ended, at-most-sixteen, no_word, word_more}
+use Rattle.hex_digits.proofs.read_words.Statement.{statement}
+use Rattle.hex_digits.proofs.read_words.Tie as tie
 
 -- ---- the field and where it is cut
 
@@ -32,8 +32,8 @@ cuts s = (search rules, search rules, search rules, search rules)
 
 -- ---- the number read where each word is known
 
-said : {r r' : Word} {o : Option ℕ} → wordSays r ≡ o → r ≡ r' → o ≡ wordSays r'
-said e is = sym e ∙ ap wordSays is
+said : {r r' : Word} {o : Option ℕ} → word_says r ≡ o → r ≡ r' → o ≡ word_says r'
+said e is = sym e ∙ ap word_says is
 
 abbrev at-w3 : tie.After-known-told → tie.After-less3
 at-w3 c = c.before.before.before.before.before

@@ -1,6 +1,6 @@
 // Hex digits: what a byte says, and what the bytes of a field say, as specs/Hex.antt has it.
 ghost use Rattle.std.specs.Prelude.{◌≡◌, ◌-◌, ◌≤◌, length};
-ghost use Rattle.hex.specs.Hex.{hexDigit, digitSays, readHex, wordSays, fourWordsSay};
+ghost use Rattle.hex_digits.specs.Hex.{hex_digit, digit_says, read_hex, word_says, four_words_say};
 
 // What a byte is as a hex digit.
 #[derive(Drop)]
@@ -10,7 +10,7 @@ enum Digit {
 }
 
 fn read_digit(b: u8) -> Digit
-    ensures { digitSays result ≡ hexDigit b }
+    ensures { digit_says result ≡ hex_digit b }
 {
     match b {
         b'0'..=b'9' => Digit::Is((b - b'0') as u64),
@@ -28,7 +28,7 @@ enum Word {
 
 fn read_word(part: &[u8]) -> Word
     requires { length part.now ≤ 16 }
-    ensures { wordSays result ≡ readHex 0 part.now }
+    ensures { word_says result ≡ read_hex 0 part.now }
 {
     let mut word: u64 = 0;
     let mut i = 0;
@@ -51,7 +51,7 @@ pub enum Words {
 
 pub fn read_words(field: &[u8]) -> Words
     requires { length field.now ≤ 64 }
-    ensures { fourWordsSay result ≡ readHex 0 field.now }
+    ensures { four_words_say result ≡ read_hex 0 field.now }
 {
     // A word has sixteen digits, counted from the end. Where the digits run out, the words above have none and are 0.
     let end = field.len();

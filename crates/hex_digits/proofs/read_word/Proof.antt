@@ -4,11 +4,11 @@ use mathlib.Core.Path.{◌≡◌, sym, ap, ◌∙◌}
 use mathlib.Core.Option.{some, none}
 use lib.ListN.{length}
 use borrow.Author.Rules.{rules}
-use Rattle.hex.specs.Hex.{hexDigit, digitSays}
-use Rattle.hex.proofs.HexLaws.{Reading, begin, ended, no_digit, room, one_more, digit_lt}
-use Rattle.hex.proofs.ShiftLaws.{shift_in}
-use Rattle.hex.proofs.read_word.Statement.{statement}
-use Rattle.hex.proofs.read_word.Tie as tie
+use Rattle.hex_digits.specs.Hex.{hex_digit, digit_says}
+use Rattle.hex_digits.proofs.HexLaws.{Reading, begin, ended, no_digit, room, one_more, digit_lt}
+use Rattle.hex_digits.proofs.ShiftLaws.{shift_in}
+use Rattle.hex_digits.proofs.read_word.Statement.{statement}
+use Rattle.hex_digits.proofs.read_word.Tie as tie
 
 abbrev invariant-loop : tie.invariant-loop
 invariant-loop part word₀ i₀ word i = Reading part word i
@@ -33,7 +33,7 @@ enum_told c = search rules
 
 returns : tie.Need-returns invariant-loop decreases-loop
 returns c =
-    let e : hexDigit _ ≡ none = sym c.before.before.read-digit.ensures ∙ ap digitSays c.enum_told.given.1 in
+    let e : hex_digit _ ≡ none = sym c.before.before.read-digit.ensures ∙ ap digit_says c.enum_told.given.1 in
     sym (no_digit c.before.before.before.before.before.loop.invariant (search rules) e)
 
 add-i : tie.Need-overflow-add-i invariant-loop decreases-loop
@@ -45,7 +45,7 @@ loop-less c = search rules
 loop-again : tie.Need-loop-preserved invariant-loop decreases-loop
 loop-again c =
     let r = c.before.before.before.before.before.before.loop.invariant in
-    let e : hexDigit _ ≡ some _ = sym c.before.before.before.read-digit.ensures ∙ ap digitSays c.before.digit.given.1 in
+    let e : hex_digit _ ≡ some _ = sym c.before.before.before.read-digit.ensures ∙ ap digit_says c.before.digit.given.1 in
     rw (shift_in _ _ (room r (search rules) (search rules)) (digit_lt _ _ e)) (one_more r (search rules) _ e)
 
 returns-2 : tie.Need-returns-2 invariant-loop decreases-loop
