@@ -10,7 +10,7 @@ out=$root/target/bindings
 passed=0
 failed=0
 
-[ -r "$library/libcrpd.a" ] || x86_die "there is no libcrpd.a in $library: run 'rt staticlib crpd' first"
+[ -r "$library/libcrpd.a" ] || x86_die "there is no libcrpd.a in $library: run tools/library.sh first"
 mkdir -p "$out"
 x86_tools "$out/lib"
 

@@ -6,8 +6,11 @@ set -eu
 here=$(cd "$(dirname "$0")" && pwd -P)
 root=$(dirname "$here")
 cd "$root"
-for library in crpd parts values; do
-    rt staticlib "$library" >"$root/target/$library.log" 2>&1 || { cat "$root/target/$library.log" >&2; exit 1; }
+mkdir -p target
+for library in crpd_c parts values; do
+    name=$library
+    [ "$library" != crpd_c ] || name=crpd
+    tools/static.sh "$library" "$name" >"target/$name.log" 2>&1 || { cat "target/$name.log" >&2; exit 1; }
 done
 compare/build.sh >/dev/null
 exec target/compare/bench "$@"

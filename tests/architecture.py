@@ -32,7 +32,7 @@ LEADS = {
 def uses(text):
     """Of each crate of crates.txt what it uses, the kit's libraries too."""
     lines = (line.partition("#")[0].partition(":") for line in text.splitlines())
-    return {name.strip(): used.split() for name, colon, used in lines if colon}
+    return {name.split()[0]: used.split() for name, colon, used in lines if colon}  # what kind of crate it is may stand after the name
 
 
 def boxes(drawing):

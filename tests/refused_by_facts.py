@@ -1,34 +1,34 @@
 #!/usr/bin/env python3
-"""Reads the log of each must-fail edit that `rt ci` tried, and fails where the first error is that the proof file no longer fits the code:
-such an edit was refused for its shape, and shows nothing about the promise that it is to test."""
+"""refused_by_facts.py LOG: reads what `rt ci` printed, and fails for each must-fail edit that is not refused there because a fact fails: one that no line names, that
+could not be tried, that was refused by a limit of the prover, or only since a proof file names what the edit took away. Such an edit shows nothing about the promise
+that it is to test. The last line is `N passed, M failed`."""
 import glob
 import os
 import re
 import sys
 
-# A function with a proof file is refused by an error; one that the checker proves by itself, by a note on the fact that it could not show.
-REFUSED = re.compile(r" error: |: it is not proved that ")
-UNFIT = re.compile(r"that can be named from here|has no field `|is not in scope|expected type `tie\.Need-|has no `Need-|this pattern needs a function|Parse")
+EDIT = re.compile(r"rt: must-fail (\w+/[^:]+\.edit): (.*)")
+REFUSED = "refused, as it must be"
 
 
-def first_refusal(log):
-    with open(log, encoding="utf-8", errors="replace") as lines:
-        return next((line.strip() for line in lines if REFUSED.search(line)), "")
+def told(path):
+    """Of each edit what the log says of it last."""
+    with open(path, encoding="utf-8", errors="replace") as lines:
+        return {found[1]: found[2] for found in map(EDIT.match, lines) if found}
 
 
 def main():
-    edits = sorted(glob.glob("crates/*/must-fail/*.edit"))
+    of_edit = told(sys.argv[1])
     passed = failed = 0
-    for edit in edits:
-        crate, label = edit.split(os.sep)[1], os.path.splitext(os.path.basename(edit))[0]
-        log = os.path.join("target", "must-fail", crate, label, ".log")
-        refusal = first_refusal(log) if os.path.exists(log) else ""
-        if refusal and not UNFIT.search(refusal):
+    for path in sorted(glob.glob("crates/*/must-fail/*.edit")):
+        name = "%s/%s" % (path.split(os.sep)[1], os.path.basename(path))
+        said = of_edit.get(name, "no line in the log")
+        if said.startswith(REFUSED) and not said.startswith(REFUSED + " (only"):
             passed += 1
         else:
             failed += 1
-            print(f"{crate}/{label}: not refused by a fact: {refusal[:300] or 'no refusal in the log'}")
-    print(f"{passed} passed, {failed} failed")
+            print("%s: not refused by a fact: %.300s" % (name, said))
+    print("%d passed, %d failed" % (passed, failed))
     return failed > 0
 
 

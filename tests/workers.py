@@ -1,7 +1,7 @@
 #!/usr/bin/env python3
 """workers.py [COMMAND..]: runs crpd-report, or another command that is to do the same, on some tables by several workers in any order, each table
 in a process of its own, and holds what is printed to what is printed of it alone. And it looks whether the static library has anything in which
-a call could leave something to the next. Needs target/staticlib/libcrpd.a (`rt staticlib crpd`). One line for each case; the last line is
+a call could leave something to the next. Needs target/staticlib/libcrpd.a (`tools/library.sh`). One line for each case; the last line is
 `N passed, M failed`."""
 import glob
 import os

@@ -13,7 +13,6 @@ if [ -z "${RATTLE_HOME:-}" ]; then
 fi
 logs=$root/target/log
 log=$logs/$called.log
-began=$logs/$called.began
 ours='' # the process that proves, while there is one
 
 # The crates that one needs, itself among them, in the order in which rt proves them: each after those that it uses, by levels. crates.txt
@@ -33,8 +32,8 @@ plan() {
         }
         { sub(/#.*/, "") }
         (at = index($0, ":")) {
-            name = substr($0, 1, at - 1)
-            gsub(/[ \t]/, "", name)
+            split(substr($0, 1, at - 1), words)
+            name = words[1] # without what kind of crate it is
             line[name] = substr($0, at + 1)
         }
         END {
@@ -43,16 +42,15 @@ plan() {
         }' "$root/crates.txt"
 }
 
-# Says which proofs have begun since it last looked. rt opens NAME.say when it starts the prover on a crate; for one that is proved already, or
-# cannot be, it opens none.
+# Says which proofs have begun since it last looked: rt tells of a crate as it starts the prover on it.
 tell() {
-    opened=$(find "$logs" -name '*.say' -newer "$began")
+    opened=$(sed -n 's/^rt: chose --jobs [0-9]* for //p' "$log" | tr '\n' ' ')
     place=0
     for crate in $crates; do
         place=$((place + 1))
         case $told in *" $crate "*) continue ;; esac
-        case $opened in
-        *"/$crate.say"*)
+        case " $opened" in
+        *" $crate "*)
             echo "proving $place of $total: $crate" >&2
             told="$told$crate "
             ;;
@@ -81,7 +79,7 @@ prove() {
     # shellcheck disable=SC2086
     total=$(set -- $crates && echo $#)
     told=' '
-    { mkdir -p "$logs" && : >"$began"; } || die "cannot write into $logs"
+    { mkdir -p "$logs" && : >"$log"; } || die "cannot write into $logs"
     echo "$called: proving and building the program, once; this takes some minutes. $log has what the prover says" >&2
     # rt's own children do not hear a Ctrl-C: in a group of their own they can be ended together
     group=$(command -v setsid)
@@ -101,8 +99,8 @@ prove() {
     trap - INT TERM HUP
     if [ "$status" -ne 0 ]; then
         undo
-        # the log's end, without the lines on what was proved and on what only follows from a failure
-        grep -v -e ': proved$' -e '^rt: [a-z_]* proved ' -e '^library ' -e '^logic ' -e 'NOT PROVED: its dependency' "$log" | tail -n 20 >&2
+        # the log's end, without the lines on what was proved and what was loaded
+        grep -v -e ': proved$' -e '^checked ' -e '^statements ' -e '^crate ' -e '^logic' "$log" | tail -n 20 >&2
         die "the program could not be proved and built; all that was said is in $log"
     fi
 }

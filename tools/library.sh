@@ -6,6 +6,6 @@ root=$(cd "$(dirname "$0")/.." && pwd -P)
 library=$root/target/staticlib
 cd "$root"
 rm -f "$library/libcrpd.proved"
-rt staticlib crpd
+tools/static.sh crpd_c crpd
 toolchain=$(rt version)
 printf '%s\n%s\n' "$(sha256sum <"$library/libcrpd.a")" "$toolchain" >"$library/libcrpd.proved"

@@ -1,4 +1,4 @@
-/* Worst-case response times of the tasks of a table text, by the proved library (rt staticlib crpd).
+/* Worst-case response times of the tasks of a table text, by the proved library (tools/library.sh).
  *
  * Every function takes every text, number and buffer, and answers one number. Below 2^32 it is the
  * answer; from 2^32 on it is a refusal, whose number and line the functions at the end take out. The

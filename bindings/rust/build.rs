@@ -1,4 +1,4 @@
-// Links libcrpd.a, which `rt staticlib crpd` writes, from the folder in CRPD_LIBRARY or from the
+// Links libcrpd.a, which `tools/library.sh` writes, from the folder in CRPD_LIBRARY or from the
 // repository's target/staticlib.
 fn main() {
     let folder = std::env::var("CRPD_LIBRARY").unwrap_or_else(|_| {

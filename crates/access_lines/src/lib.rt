@@ -1,5 +1,7 @@
 // What an access line says, and the number of its first refusal.
 // specs/AccessLines.antt has both.
+#![tactic(auto)]
+
 ghost use Rattle.std.specs.Prelude.{◌≡◌, ◌≤◌, take};
 ghost use Rattle.access_lines.specs.AccessLines.{access_said, access_fault};
 
@@ -10,7 +12,7 @@ use tasks::Name;
 use units::Ticks;
 
 // What an access line says: whether it has its shape, whether its names, its length and its set can be read, and the access.
-#[derive(Drop)]
+#[derive(Clone, Copy)]
 pub struct AccessLine {
     pub shaped: bool,
     pub named: bool,

@@ -1,5 +1,7 @@
 // The response of a task under a method. specs/Analysis.antt says what a response is. A table's numbers and sets are put on a board once, and
 // that is lent: a table is long to copy.
+#![tactic(auto)]
+
 ghost use Rattle.std.specs.Prelude.{◌≡◌, ◌+◌, ◌≤◌, take};
 ghost use Rattle.demand.specs.Demand.{demand_of};
 ghost use Rattle.demand.specs.Terms.{term_in, Handed};

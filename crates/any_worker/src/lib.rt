@@ -1,19 +1,21 @@
 // Any worker gets the same. proofs/AnyWorker.antt has for each operation that two calls agree. Here it is promised of what the code returns: two workers ask
 // for the same answer, or for the same report, each into a buffer of its own.
+#![tactic(auto)]
+
 ghost use Rattle.any_worker.specs.Calls.{AnsweredTwice, ReportedTwice};
 
 use crpd::Reply;
 use delivery::Written;
 
 // What two calls of `crpd::answer` answered.
-#[derive(Drop)]
+#[derive(Clone, Copy)]
 pub struct Replies {
     one: Reply,
     other: Reply,
 }
 
 // What two calls of `crpd::report` answered.
-#[derive(Drop)]
+#[derive(Clone, Copy)]
 pub struct Reports {
     one: Written,
     other: Written,

@@ -1,5 +1,5 @@
 -- A row of charges that an access joins: above its ceiling its UCB is one member more, and from there on nothing changes. Assumes nothing.
-use Prim.Native.Nat.{ℕ, zero, suc, ◌≤◌, ◌<◌, zero-le}
+use Prim.Native.Nat.{ℕ, ◌≤◌, ◌<◌, zero-le}
 use native.Mathlib.Omega.{arith}
 use mathlib.Core.Path.{◌≡◌, sym, ap, ◌∙◌}
 use mathlib.Core.List.{List}
@@ -21,16 +21,6 @@ module _ (board : List ℕ) (a : Access) (m i : ℕ) where
   -- from the ceiling on a row without the access serves
   pub charged-past : (from : ℕ) {row : List ℕ} → a.ceiling ≤ from → Charged board m i 0 row → ChargedUnder board a m i from row
   charged-past from h p = record { long = p.long; each = λ j l b. p.each j zero-le b ∙ sym (charge-past board a m i j (omega arith)) }
-
--- without reloads and under ECB-Only it serves everywhere
-pub charged-whoever : (board : List ℕ) (a : Access) (m i : ℕ) {row : List ℕ} → m ≤ 1 → Charged board m i 0 row → ChargedUnder board a m i 0 row
-charged-whoever board a zero i h p = record { long = p.long; each = p.each }
-charged-whoever board a (suc zero) i h p = record { long = p.long; each = p.each }
-charged-whoever board a (suc (suc m)) i h p = absurd (omega arith)
-
--- the method that the code has found m to be
-pub under-by : (board : List ℕ) (a : Access) {row : List ℕ} {i : ℕ} (m k : ℕ) → m ≡ k → ChargedUnder board a k i 0 row → ChargedUnder board a m i 0 row
-under-by board a m k e p = rw e p
 
 -- the hit that a charge tells
 abbrev hit_in : Charge → Hit

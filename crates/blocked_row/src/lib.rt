@@ -1,5 +1,7 @@
 // What the tasks above one task are charged and ask for while an access blocks it. The row without the access is there already: only what the access's UCB
 // adds to it is worked out, for the tasks above its ceiling. specs/BlockedRow.antt says what a row then tells.
+#![tactic(auto)]
+
 ghost use Rattle.std.specs.Prelude.{◌≡◌, ◌+◌, ◌≤◌, length};
 ghost use Rattle.sets.specs.Sets.{◌∪◌};
 ghost use Rattle.sets.specs.Words.{members};

@@ -122,21 +122,13 @@ module _ (b : List ℕ) (k : ℕ) (t : Task) (few : k < 32) (long : length b ≡
     ecb = stored_same (with_ucb b k t) (ecb_at k) t.ecb (omega (arith, stored-long (with_numbers b k t) (ucb_at k) t.ucb, numbers-long));
   }
 
--- the board with the block reload time alone, and with one task more
-module _ (table : Table) (b : List ℕ) where
-  pub board-none : length b ≡ 417 → BoardOf table 0 (set b 416 table.brt.0)
-  board-none l = record {
-    long = simp length-set l;
-    brt = get_or-set_same b 416 _ 0 (omega arith);
-    tasks = λ k h. absurd (omega arith);
-  }
-
-  pub board-next : (k : ℕ) → k < table.count → k < 32 → BoardOf table k b → BoardOf table (k + 1) (with_all b k (get_or table.tasks k blank))
-  board-next k h few p =
-      let t = get_or table.tasks k blank in
-      record {
-        long = all-long b k t few p.long;
-        brt = number-kept b k t few p.long 416 (λ w g n z. omega arith) (λ c g z. omega arith) ∙ p.brt;
-        tasks = below_more (λ l. Stands (with_all b k t) l (at table l)) k (λ l g. kept b k t few p.long l _ g (p.tasks l g))
-            (rw (← at_held table k h) (put b k t few p.long));
-      }
+-- the board with one task more
+pub board-next : (table : Table) (b : List ℕ) (k : ℕ) → k < table.count → k < 32 → BoardOf table k b → BoardOf table (k + 1) (with_all b k (get_or table.tasks k blank))
+board-next table b k h few p =
+    let t = get_or table.tasks k blank in
+    record {
+      long = all-long b k t few p.long;
+      brt = number-kept b k t few p.long 416 (λ w g n z. omega arith) (λ c g z. omega arith) ∙ p.brt;
+      tasks = below_more (λ l. Stands (with_all b k t) l (at table l)) k (λ l g. kept b k t few p.long l _ g (p.tasks l g))
+          (rw (← at_held table k h) (put b k t few p.long));
+    }

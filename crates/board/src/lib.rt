@@ -1,4 +1,6 @@
 // The board: what the analysis is lent of a table, in one list. specs/Board.antt says what stands where.
+#![tactic(auto)]
+
 ghost use Rattle.std.specs.Prelude.{◌≤◌, ◌≡◌, length};
 ghost use Rattle.table.specs.Accepted.{AcceptedTable};
 ghost use Rattle.board.specs.Board.{BoardOf};

@@ -49,7 +49,7 @@ module _ (U : ℕ → Set) (above : Set) (j : ℕ) where
   }
 
   -- one row further
-  pub carried-next : (i : ℕ) (g r : Gathered) (ucb : Set) → j < i → ucb ≡ U i → Carried U above j i g → Next g ucb above i r → Carried U above j (i + 1) r
+  carried-next : (i : ℕ) (g r : Gathered) (ucb : Set) → j < i → ucb ≡ U i → Carried U above j i g → Next g ucb above i r → Carried U above j (i + 1) r
   carried-next i g r ucb h e c n = record {
     most = n.most ∙ hit-next (λ k. size (U k)) (j + 1) i _ _ (omega arith) c.most (ap size e);
     all = n.all ∙ union-next U (j + 1) i _ _ (omega arith) c.all e;
@@ -160,10 +160,7 @@ module _ (board l : List ℕ) (j : ℕ) (g : Gathered) (few : j < 32) (long : le
 
 -- ---- inside a row
 
-pub passing-none : {board l : List ℕ} (i : ℕ) → Ledger board i l → Passing board i 0 l
-passing-none i p = record { long = p.long; past = λ k h. absurd (omega arith); ahead = λ k h n. p.columns k n }
-
-pub passing-next : (board l : List ℕ) (i j : ℕ) (g : Gathered) → j < i → i < 32 → Passing board i j l
+passing-next : (board l : List ℕ) (i j : ℕ) (g : Gathered) → j < i → i < 32 → Passing board i j l
     → Carried (ucb_on board) (union_of (ecb_on board) (hp (j + 1))) j (i + 1) g → Passing board i (j + 1) (gathered_put l j g)
 passing-next board l i j g h few p c =
     let few-j : j < 32 = omega arith in
@@ -176,6 +173,15 @@ passing-next board l i j g h few p c =
       ahead = λ k n m. column-other board l j g few-j p.long k i (omega arith) (λ z. omega arith) (p.ahead k (omega arith) m);
     }
 
+-- what is gathered for j goes one row further, and is put in
+pub row-further : {board l to : List ℕ} (i j : ℕ) {g r : Gathered} {ucb above : Set} → j < i → i < 32 → Passing board i j l → ucb ≡ ucb_on board i
+    → g ≡ gathered_on l j → above ≡ above_on l j → Next g ucb above i r → to ≡ gathered_put l j r
+    → Carried (ucb_on board) (union_of (ecb_on board) (hp (j + 1))) j (i + 1) r × Passing board i (j + 1) to
+row-further {board} {l} i j {g} {r} h few p u e a n t =
+    let here = p.ahead j (omega arith) h in
+    let next = carried-next (ucb_on board) (union_of (ecb_on board) (hp (j + 1))) j i g r _ h u (rw e here.gathered) (rw (a ∙ here.above) at n) in
+    (next, rw t (passing-next board l i j r h few p next))
+
 -- ---- below a row
 
 -- the task at i gets a column of its own: its union of ECBs, the size of its ECB, and nothing gathered
@@ -186,7 +192,7 @@ module _ (board l : List ℕ) (i : ℕ) (all : CacheSet) (n : ℕ) (few : i < 32
   abbrev sized : List ℕ
   sized = set ecbs-in (256 + i) n
 
-  pub sized-long : length sized ≡ 416
+  sized-long : length sized ≡ 416
   sized-long = simp length-set (stored-long l i all ∙ p.long)
 
   number-still : (q : ℕ) → 256 ≤ q → (q ≡ 256 + i → ⊥) → get_or sized q 0 ≡ get_or l q 0
@@ -247,8 +253,17 @@ pair_under board a i j evicting g r h l c n e p =
         cc
 
 -- what one set more leaves small
-pub next_small : (g r : Gathered) (ucb above : Set) (k : ℕ) → Small g → Next g ucb above k r → Small r
+next_small : (g r : Gathered) (ucb above : Set) (k : ℕ) → Small g → Next g ucb above k r → Small r
 next_small g r ucb above k s n = record {
   most = rw n.most (larger-most _ _ s.most (omega (arith, size-le ucb)));
   shared = rw n.shared (larger-most _ _ s.shared (omega (arith, size-le (ucb ∩ above))));
 }
+
+-- what is gathered for j before an access's UCB is added, and after
+pub access-further : {board l : List ℕ} (i j k : ℕ) {g r : Gathered} {ucb above : Set} → j < i → Ledger board (i + 1) l → g ≡ gathered_on l j → above ≡ above_on l j
+    → Next g ucb above k r
+    → Carried (ucb_on board) (union_of (ecb_on board) (hp (j + 1))) j (i + 1) g × Next g ucb (union_of (ecb_on board) (hp (j + 1))) k r × Small r
+access-further {board} i j k {g} {r} {ucb} {above} h p e a n =
+    let column = p.columns j (omega arith) in
+    let carried : Carried (ucb_on board) (union_of (ecb_on board) (hp (j + 1))) j (i + 1) g = rw e column.gathered in
+    (carried, rw (a ∙ column.above) at n, next_small g r ucb above k (carried-small _ _ j _ _ carried) n)

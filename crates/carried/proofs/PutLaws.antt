@@ -99,6 +99,3 @@ module _ (j : ℕ) (column : j < 32) where
 
   pub row_next : {w : ℕ → ℕ → ℕ} {x y z : List ℕ} → Put (InRow j) w x y → Put (InPair j 5) w y z → Put (InRow (j + 1)) w x z
   row_next p q = put_then row-joins p q
-
-pub row-none : {w : ℕ → ℕ → ℕ} (x : List ℕ) → length x ≡ 160 → Put (InRow 0) w x x
-row-none x long = put-none _ _ x long (λ m b p. omega arith)

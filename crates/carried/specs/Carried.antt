@@ -9,7 +9,7 @@
 --            352   the most that one of these UCBs shares with the union of the ECBs
 --            384   the first position that has it
 --
-use Rattle.std.specs.Prelude.{ℕ, ◌+◌, ◌*◌, ◌≤◌, ◌<◌, ◌≡◌, List, [], ◌∷◌, length, get_or, set}
+use Rattle.std.specs.Prelude.{ℕ, ◌+◌, ◌*◌, ◌≤◌, ◌<◌, ◌≡◌, List, [], ◌∷◌, length, get_or}
 use Rattle.sets.specs.Sets.{Set, ◌∪◌, ◌∩◌, size}
 use Rattle.sets.specs.Words.{members}
 use Rattle.sets.specs.Stored.{held_at, stored_at, set_at}

@@ -1,5 +1,7 @@
 // What pre-emption costs, carried down the rows of a report, so that no row gathers again what the row above it has. specs/Carried.antt says what
 // stands where on the ledger, and what the weights of a row are.
+#![tactic(auto)]
+
 ghost use Rattle.std.specs.Prelude.{◌≡◌, ◌+◌, ◌*◌, ◌<◌, ◌≤◌, length, set};
 ghost use Rattle.sets.specs.Sets.{◌∩◌, size};
 ghost use Rattle.sets.specs.Words.{members};
@@ -34,7 +36,7 @@ const SHARED: usize = 352;
 
 // What is gathered for the task at j over the positions below it, down to a row: the largest UCB, the union of the UCBs, and the most that one
 // UCB shares with the ECBs of j and all above it; the first and the last with the position that has them.
-#[derive(Drop)]
+#[derive(Clone, Copy)]
 struct Gathered {
     most: Hit,
     all: CacheSet,

@@ -17,7 +17,6 @@ use Rattle.demand.proofs.PositionLaws.{Rising, place-lt, place-le, Grows, gather
 use Rattle.accesses.specs.declared.Access.{Access}
 use Rattle.accesses.specs.Accesses.{may_block, added_by}
 use Rattle.table.specs.declared.Table.{Table}
-use Rattle.table.specs.Tasks.{at}
 use Rattle.table.specs.Accepted.{AcceptedTable}
 use Rattle.costs.specs.Gather.{aff, union_of, largest_at}
 use Rattle.costs.specs.Costs.{ucb_of, ecb_of, reloads_of, reloads_with, term_under}

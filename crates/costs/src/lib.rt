@@ -1,5 +1,7 @@
 // What pre-emption costs: reload counts with whom they hit, and what one activation asks for with them. specs/Costs.antt says what they are; what is
 // here is common to the two crates that work them out, for the rows of a report and for one row.
+#![tactic(auto)]
+
 ghost use Rattle.std.specs.Prelude.{◌≡◌, ◌+◌, ◌*◌, ◌<◌, ◌≤◌, length};
 ghost use Rattle.costs.specs.Gather.{hit, larger_of};
 ghost use Rattle.costs.specs.Listed.{hit_on, hit_put};
@@ -11,7 +13,7 @@ use units::{Reloads, Ticks};
 const VICTIM: usize = 32;
 
 // What one task has to reload, and the position of that task: whom the pre-emption hits.
-#[derive(Drop)]
+#[derive(Clone, Copy)]
 pub struct Hit {
     pub reloads: Reloads,
     pub victim: usize,
@@ -30,7 +32,7 @@ impl Hit {
 }
 
 // What an activation is charged for reloads: as many as the worst hit task has, or a count that is not that of a single task.
-#[derive(Drop)]
+#[derive(Clone, Copy)]
 pub enum Charge {
     Victim(Hit),
     NoVictim(Reloads),

@@ -17,7 +17,7 @@ use Rattle.table.proofs.AcceptedLaws.{accepted-table}
 use Rattle.costs.specs.Harder.{Harder}
 use Rattle.analysis.specs.Analysis.{response_of}
 use Rattle.analysis.proofs.Orders.{harder-answers}
-use Rattle.crpd.specs.declared.Reply.TheVariants.{Within, Unschedulable, Refused}
+use Rattle.crpd.specs.declared.Reply.TheVariants.{Within, Refused}
 use Rattle.crpd.specs.Operations.{reply_of, reply_in, answer_to}
 
 -- a response that is answered is that of a task of the table

@@ -19,7 +19,7 @@ use Rattle.analysis.specs.Analysis.{response_of}
 use Rattle.delivery.specs.declared.Written.{Written}
 use Rattle.readable.specs.Tests.{is_readable}
 use Rattle.delivery.specs.declared.Written.TheVariants as written
-use Rattle.delivery.specs.Delivery.{written_of, Delivered}
+use Rattle.delivery.specs.Delivery.{written_of}
 use Rattle.crpd.specs.declared.Reply.{Reply}
 use Rattle.crpd.specs.declared.Reply.TheVariants.{Within, Unschedulable, Refused}
 use Rattle.crpd.specs.Operations.{reply_of, unless_refused, answer_to, ruled_answer, TextWritten, task_ruling_of, write_ruling}
@@ -87,9 +87,6 @@ written_small text out = go (leb (length text) (length out))
 ruled-small : (v : Ruling) (text out : List ℕ) → SmallRuling v → SmallWritten (ruled_answer v text out)
 ruled-small ruling.Accepted text out p = written_small text out
 ruled-small (ruling.Refused r) text out p = p
-
-pub delivered-small : {text out : List ℕ} {w : Written} {after : List ℕ} → Delivered text out w after → SmallWritten w
-delivered-small {text} {out} d = rw d.answer (written_small text out)
 
 pub text-small : {ruled : Ruling} {most : ℕ} {text out : List ℕ} {w : Written} {after : List ℕ} → SmallRuling ruled → TextWritten ruled most text out w after → SmallWritten w
 text-small {ruled} {text} {out} p r = rw r.answer-is (ruled-small ruled text out p)

@@ -6,7 +6,7 @@ use mathlib.Core.Bool.{Bool, true, false, cond}
 use mathlib.Core.List.{List}
 use lib.Dec.{leb, ltb}
 use lib.ListN.{length}
-use borrow.Author.Tests.{le-leb, lt-leb, leb-false, ltb-false}
+use borrow.Author.Tests.{leb-false, ltb-false}
 use native.Mathlib.Omega.{arith}
 use Rattle.table.specs.declared.Refusal.{Refusal}
 use Rattle.table.specs.declared.Outcome.{Outcome}
@@ -19,14 +19,13 @@ use Rattle.writer.specs.Wrote.{Wrote}
 use Rattle.delivery.specs.declared.Written.{Written}
 use Rattle.delivery.specs.declared.Written.TheVariants as written
 use Rattle.analysis.specs.Analysis.{response_of, Answerable}
-use Rattle.report.specs.Reported.{Reported}
 use Rattle.explanation.specs.Explained.{Explained}
 use Rattle.delivery.specs.Delivery.{Delivered}
 use Rattle.delivery.specs.Error.{error_text}
 use Rattle.delivery.proofs.Deliveries.{fitting}
 use Rattle.crpd.specs.declared.Reply.{Reply}
 use Rattle.crpd.specs.declared.Reply.TheVariants.{Refused}
-use Rattle.crpd.specs.Operations.{reply_of, unless_refused, answer_to, TextWritten, report_in, TextReported, task_ruling, task_ruling_of, method_ruling, TextExplained, printed_of, printed}
+use Rattle.crpd.specs.Operations.{reply_of, unless_refused, answer_to, TextWritten, report_in, TextReported, task_ruling, task_ruling_of, TextExplained, printed_of, printed}
 
 -- ---- a text that is written
 
@@ -48,28 +47,6 @@ pub record Allowed (m i : ℕ) (read : Ruling) (count : ℕ) : Type 0 where
   pub method : m ≤ 5
   pub accepted : read ≡ ruling.Accepted
   pub held : i < count
-
--- the method and the text are ruled on first, and then the position
-module _ (m i : ℕ) (read : Ruling) (count : ℕ) where
-  abbrev position : Ruling
-  position = cond (leb count i) (ruling.Refused (refusal 13)) ruling.Accepted
-
-  task-by-method : unless_refused ruling.Refused (method_ruling m read) position ≡ task_ruling m i read count
-  task-by-method = go (ltb 5 m)
-    where
-      go : (t : Bool) → unless_refused ruling.Refused (cond t (ruling.Refused (refusal 12)) read) position
-          ≡ cond t (ruling.Refused (refusal 12)) (unless_refused ruling.Refused read position)
-      go true = refl
-      go false = refl
-
-  pub task-ruled : (v w : Ruling) → v ≡ method_ruling m read → v ≡ w → unless_refused ruling.Refused w position ≡ task_ruling m i read count
-  task-ruled v w ruled e = rw (← e, ruled) task-by-method
-
-  pub past-ruled : (v : Ruling) → v ≡ method_ruling m read → v ≡ ruling.Accepted → count ≤ i → ruling.Refused (refusal 13) ≡ task_ruling m i read count
-  past-ruled v ruled e h = let p : ruling.Refused (refusal 13) ≡ position = rw (le-leb count i h) refl in p ∙ task-ruled v ruling.Accepted ruled e
-
-  pub held-ruled : (v : Ruling) → v ≡ method_ruling m read → v ≡ ruling.Accepted → i < count → ruling.Accepted ≡ task_ruling m i read count
-  held-ruled v ruled e h = let p : ruling.Accepted ≡ position = rw (lt-leb count i h) refl in p ∙ task-ruled v ruling.Accepted ruled e
 
 -- what holds of each ruling where it is given
 module _ (P : Ruling → Type 0) (m i : ℕ) (read : Ruling) (count : ℕ) (method-refused : P (ruling.Refused (refusal 12)))
@@ -131,10 +108,6 @@ module _ (text : List ℕ) (o : Outcome) (read : o ≡ read_text text) where
 
   pub outcome-accepted : o.ruling ≡ ruling.Accepted → AcceptedTable o.table
   outcome-accepted e = rw read (accepted-table text (ruling-is ruling.Accepted e))
-
-  pub report-accepted : (out : List ℕ) (w : Written) (after : List ℕ) → o.ruling ≡ ruling.Accepted → Reported o.table (response_of o.table) out w after
-      → TextReported text out w after
-  report-accepted out w after e d = text-accepted (ruling-is ruling.Accepted e) (rw read at d.delivered) (rw read at d.short)
 
   -- of one task
   module _ (m i : ℕ) (v : Ruling) (ruled : v ≡ task_ruling m i o.ruling o.table.count) where

@@ -1,7 +1,9 @@
 // The public operations: of a table text one answer, its explanation, the report, what the program prints, the text again, how much growth is left, and the
 // text with that growth; of a table its text.
 // They take every text, table, number and buffer, and ask nothing of their caller.
-pub mod exported;
+#![tactic(auto)]
+
+pub mod codes;
 
 ghost use Rattle.std.specs.Prelude.{◌≡◌};
 ghost use Rattle.table.specs.Accepted.{AcceptedTable};
@@ -16,7 +18,7 @@ use table::{Refusal, Ruling, Table};
 use units::Ticks;
 
 // What is answered of a task under a method.
-#[derive(Drop)]
+#[derive(Clone, Copy)]
 pub enum Reply {
     Within(Ticks),
     Unschedulable,
@@ -24,7 +26,7 @@ pub enum Reply {
 }
 
 // How far execution times may grow under a method.
-#[derive(Drop)]
+#[derive(Clone, Copy)]
 pub enum Factor {
     Thousandths(u64),
     Refused(Refusal),

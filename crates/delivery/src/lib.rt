@@ -1,4 +1,6 @@
 // Whole texts, and the line of a refusal, put at the start of a buffer.
+#![tactic(auto)]
+
 ghost use Rattle.std.specs.Prelude.{◌≤◌, length};
 ghost use Rattle.writer.specs.Wrote.{Wrote};
 ghost use Rattle.delivery.specs.Delivery.{Delivered};
@@ -8,7 +10,7 @@ use table::Refusal;
 use writer::{put_byte, put_bytes, put_number_field};
 
 // What a writer of a whole text answers.
-#[derive(Drop)]
+#[derive(Clone, Copy)]
 pub enum Written {
     Length(usize),
     Refused(Refusal),

@@ -1,5 +1,7 @@
 // The demand of a task, and the smallest time that equals it. specs/Demand.antt says what a demand is, specs/Terms.antt how its terms are
 // lent, and specs/Least.antt what the smallest solution is.
+#![tactic(auto)]
+
 ghost use Rattle.std.specs.Prelude.{◌≡◌, ◌-◌, ◌≤◌};
 ghost use Rattle.demand.specs.Demand.{term_of, work_of, demand_of};
 ghost use Rattle.demand.specs.Terms.{term_in, InRange, Handed};
@@ -8,20 +10,20 @@ ghost use Rattle.demand.specs.Least.{least_of, told_of, sooner, later, Reached};
 use units::Ticks;
 
 // The answer for one task: its response time, or that it has none within its limit.
-#[derive(Drop)]
+#[derive(Clone, Copy)]
 pub enum Response {
     Within(Ticks),
     Unschedulable,
 }
 
 // One answer of a row: a field that is an array holds structs, since one of enums is not covered.
-#[derive(Drop)]
+#[derive(Clone, Copy)]
 pub struct Cell {
     pub response: Response,
 }
 
 // The answers for one task under the methods 0 to 5.
-#[derive(Drop)]
+#[derive(Clone, Copy)]
 pub struct Row {
     pub cells: [Cell; 6],
 }

@@ -1,4 +1,6 @@
 // The explanation of a figure: a line with what a task needs, and one for each task above it with what that adds.
+#![tactic(auto)]
+
 mod lines;
 
 ghost use Rattle.analysis.specs.Analysis.{Answerable};

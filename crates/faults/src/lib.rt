@@ -1,5 +1,7 @@
 // When a text or one of its lines is refused: the number of the first refusal that applies.
 // specs/Faults.antt has the refusals as rows.
+#![tactic(auto)]
+
 ghost use Rattle.std.specs.Prelude.{◌≡◌, ◌≤◌, take, false};
 ghost use Rattle.fields.specs.Bytes.{same_bytes};
 ghost use Rattle.faults.specs.Faults.{is_ended, text_fault, is_within, head_in_range, head_fault, task_in_range, task_in_order, knows, position_of, task_fault, first_blocked, blocked_fault};
@@ -7,7 +9,7 @@ ghost use Rattle.faults.specs.Faults.{is_ended, text_fault, is_within, head_in_r
 use tasks::{HeadLine, Name, Task, TaskLine};
 
 // What the tests of a line, or of the whole text, find.
-#[derive(Drop)]
+#[derive(Clone, Copy)]
 pub enum Finding {
     Fine,
     Fault(u64),
@@ -22,6 +24,7 @@ fn is_ended(input: &[u8]) -> bool
 }
 
 // The first refusal of the whole text, before its lines.
+#[tactic(auto, unfolding(crate::specs::Faults::text_fault, crate::specs::Faults::first_fault))]
 pub fn text_fault(input: &[u8]) -> Finding
     ensures { result ≡ text_fault input.now }
 {
@@ -41,6 +44,7 @@ pub fn is_within(low: u64, high: u64, n: u64) -> bool
     (low <= n) & (n <= high)
 }
 
+#[tactic(auto, unfolding(crate::specs::Faults::head_in_range))]
 fn head_in_range(said: HeadLine) -> bool
     ensures { result ≡ head_in_range said }
 {
@@ -48,6 +52,7 @@ fn head_in_range(said: HeadLine) -> bool
 }
 
 // The first refusal of line 1.
+#[tactic(auto, unfolding(crate::specs::Faults::head_fault, crate::specs::Faults::first_fault))]
 pub fn head_fault(said: HeadLine) -> Finding
     ensures { result ≡ head_fault said }
 {
@@ -63,6 +68,7 @@ pub fn head_fault(said: HeadLine) -> Finding
     Finding::Fine
 }
 
+#[tactic(auto, unfolding(crate::specs::Faults::task_in_range))]
 fn task_in_range(t: Task) -> bool
     ensures { result ≡ task_in_range t }
 {
@@ -73,6 +79,7 @@ fn task_in_range(t: Task) -> bool
         & is_within(0, 250000000, t.blocking.0)
 }
 
+#[tactic(auto, unfolding(crate::specs::Faults::task_in_order))]
 fn task_in_order(t: Task) -> bool
     ensures { result ≡ task_in_order t }
 {
@@ -112,6 +119,7 @@ fn is_known(count: usize, names: [Name; 32], name: Name) -> bool
 }
 
 // The first refusal of a task line below `count` others, of which `names` has the names, and below no access line.
+#[tactic(auto, unfolding(crate::specs::Faults::task_fault, crate::specs::Faults::first_fault))]
 pub fn task_fault(count: usize, names: [Name; 32], said: TaskLine) -> Finding
     ensures { result ≡ task_fault false count (take count names) said }
 {
@@ -161,6 +169,7 @@ pub fn first_blocked(count: usize, tasks: [Task; 32]) -> usize
 }
 
 // The refusal at the end of a table with accesses: a task that has a B all the same.
+#[tactic(auto, unfolding(crate::specs::Faults::blocked_fault, crate::specs::Faults::first_fault))]
 pub fn blocked_fault(accesses: usize, count: usize, tasks: [Task; 32]) -> Finding
     requires { count ≤ 32 }
     ensures { result ≡ blocked_fault accesses (take count tasks) }

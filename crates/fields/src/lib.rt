@@ -1,10 +1,12 @@
 // What a field says: the numbers and names of specs/Fields.antt.
+#![tactic(auto)]
+
 ghost use Rattle.std.specs.Prelude.{◌≡◌, ◌≤◌, length};
 ghost use Rattle.fields.specs.Bytes.{every_byte, is_digit, is_name_byte, same_bytes};
 ghost use Rattle.fields.specs.Fields.{read_digits, read_number, is_name, is_value, value_of, is_letter};
 
 // What a field says that is to be a number.
-#[derive(Drop)]
+#[derive(Clone, Copy)]
 pub enum NumberField {
     Value(u64),
     Bad,

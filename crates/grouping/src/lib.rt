@@ -1,5 +1,7 @@
 // How rounds are chosen: stretches of time after which the releases of some terms come again as they were, and which terms are put into which of them. Nothing
 // rests on the choice, so nothing more is said of it than its ranges: any other one would do, and give the same answers.
+#![tactic(auto)]
+
 ghost use Rattle.std.specs.Prelude.{◌≡◌, ℕ, ◌≤◌, ◌<◌, get_or, length};
 ghost use Rattle.demand.specs.Terms.{period_in, Handed};
 ghost use Rattle.grouping.specs.Grouping.{ShortTaken, Chosen};

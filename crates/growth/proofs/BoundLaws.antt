@@ -1,10 +1,10 @@
 -- Greatest numbers that pass a test, for any test: one at a time, of two tests, and by bisection. Assumes nothing.
-use Prim.Native.Nat.{ℕ, zero, suc, max, ◌+◌, ◌≤◌, ◌<◌}
+use Prim.Native.Nat.{ℕ, zero, suc, ◌+◌, ◌≤◌, ◌<◌}
 use native.Mathlib.Nat.{lt_of_not-le}
 use native.Mathlib.Decide.{dec_le}
 use native.Mathlib.Omega.{arith}
 use mathlib.Core.Path.{◌≡◌, refl, sym, ◌∙◌}
-use mathlib.Core.Bool.{Bool, true, false, ◌&&◌, ◌||◌, false≢true, or-true, not-eq-not}
+use mathlib.Core.Bool.{Bool, true, false, ◌&&◌, false≢true, not-eq-not}
 use Rattle.growth.specs.Growth.{greatest, Bounds}
 
 -- where a number up to n passes, every smaller one from 1 on does
@@ -75,27 +75,6 @@ bounds-both p q n r s b c = record {
 
         beyond : r < k → (p k && q k) ≡ false
         beyond h = rw (b.fail k h m)
-
--- what passes either
-pub bounds-either : (p q : ℕ → Bool) (n r s : ℕ) → Bounds p n r → Bounds q n s → Bounds (λ k. p k || q k) n (max r s)
-bounds-either p q n r s b c = record {
-  most = omega (arith, b.most, c.most);
-  pass = passes;
-  fail = λ k l m. rw (b.fail k (omega arith) m, c.fail k (omega arith) m);
-}
-  where
-    passes : (k : ℕ) → 1 ≤ k → k ≤ max r s → (p k || q k) ≡ true
-    passes k l m = elim (dec_le k r) [ yes h ↦ first h | no h ↦ second (omega arith) ]
-      where
-        first : k ≤ r → (p k || q k) ≡ true
-        first h = rw (b.pass k l h)
-
-        second : k ≤ s → (p k || q k) ≡ true
-        second h = rw (c.pass k l h) (or-true (p k))
-
--- where all pass the second, they pass either
-pub bounds-second : (p q : ℕ → Bool) (n : ℕ) → Bounds q n n → Bounds (λ k. p k || q k) n n
-bounds-second p q n b = bounds-whole _ n (λ k l m. rw (b.pass k l m) (or-true (p k)))
 
 -- ---- bisection
 

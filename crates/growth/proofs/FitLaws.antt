@@ -1,7 +1,6 @@
 -- By how much the C of the first tasks of a board may be scaled, one task at a time. Assumes nothing.
 use Prim.Native.Nat.{ℕ, min, ◌+◌, ◌/◌, ◌≤◌, ◌<◌}
 use native.Mathlib.Decide.{dec_lt}
-use native.Mathlib.Nat.{not-suc-le-zero}
 use native.Mathlib.Omega.{arith}
 use mathlib.Core.Path.{◌≡◌}
 use mathlib.Core.List.{List}
@@ -9,9 +8,6 @@ use Rattle.board.specs.Board.{work_on}
 use Rattle.scaling.specs.Scaling.{scaled_work}
 use Rattle.scaling.proofs.ScaledLaws.{work-mono, work-fits, work-past}
 use Rattle.growth.specs.Tried.{FitsUpTo}
-
-pub fits-none : (board : List ℕ) → FitsUpTo board 0 4000
-fits-none board = record { most = omega arith; works = λ j l. absurd (not-suc-le-zero l); past = λ k l m. absurd (omega (arith, l, m)) }
 
 pub fits_more : (board : List ℕ) (n r s : ℕ) → 1 ≤ work_on board n → FitsUpTo board n r → s ≡ min r (250000000000 / work_on board n) → FitsUpTo board (n + 1) s
 fits_more board n r s some a e = record { most = omega (arith, a.most); works = works; past = past }

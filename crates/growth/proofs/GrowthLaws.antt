@@ -26,7 +26,6 @@ use Rattle.table.specs.declared.Ruling.{Ruling}
 use Rattle.table.specs.declared.Ruling.TheVariants.{Accepted, Refused}
 use Rattle.table.specs.Tasks.{at, accesses_of, access_at}
 use Rattle.table.specs.Accepted.{AcceptedTable}
-use Rattle.table.specs.Reading.{accepted}
 use Rattle.table.proofs.AcceptedLaws.{accepted-table}
 use Rattle.readable.specs.Readable.{Readable}
 use Rattle.board.specs.Board.{work_on, ucb_on, ecb_on, BoardOf}

@@ -1,9 +1,9 @@
--- Bounds over all that may block a task, one after the other, and by combined. Assumes nothing.
-use Prim.Native.Nat.{ℕ, max, ◌+◌, ◌*◌, ◌≤◌, ◌<◌}
+-- Bounds over all that may block a task, one after the other. Assumes nothing.
+use Prim.Native.Nat.{ℕ, ◌+◌, ◌*◌, ◌<◌}
 use native.Mathlib.Numerals.{add-one}
 use native.Mathlib.Omega.{arith}
 use mathlib.Core.Path.{◌≡◌, refl, sym, ap, ◌∙◌}
-use mathlib.Core.Bool.{Bool, true, false, cond, ◌&&◌, ◌||◌}
+use mathlib.Core.Bool.{Bool, true, false, cond, ◌&&◌}
 use mathlib.Core.List.{List, [], ◌∷◌, ◌++◌, map, map-append, append-nil}
 use lib.ListN.{length, get_or, take, length-append}
 use lib.Seq.{take-suc}
@@ -11,33 +11,27 @@ use Rattle.demand.specs.declared.Response.{Response}
 use Rattle.demand.specs.declared.Response.TheVariants.{Within, Unschedulable}
 use Rattle.demand.specs.Demand.{term_of}
 use Rattle.demand.specs.Terms.{period_in, jitter_in}
-use Rattle.demand.specs.Least.{least_of, sooner, later, latest_of}
+use Rattle.demand.specs.Least.{least_of, later, latest_of}
 use Rattle.demand.proofs.DemandLaws.{demand-same}
 use Rattle.demand.proofs.LaterLaws.{latest-next}
 use Rattle.accesses.specs.declared.Access.{Access}
 use Rattle.accesses.specs.Accesses.{may_block, blocking, or_else, empty_access}
-use Rattle.accesses.proofs.BlockingLaws.{blocking-snoc, or_some}
+use Rattle.accesses.proofs.BlockingLaws.{blocking-snoc}
 use Rattle.board.specs.Board.{work_on, limit_on, brt_on}
 use Rattle.costs.specs.Costs.{reloads_with}
 use Rattle.blocked_row.specs.BlockedRow.{ChargedUnder}
 use Rattle.blocked_row.proofs.JoinLaws.{count-is}
 use Rattle.verdicts.specs.Verdicts.{has_response}
-use Rattle.analysis.proofs.AnswerLaws.{combined-at, combined-below}
 use Rattle.scaling.specs.Scaling.{scaled_work}
 use Rattle.growth.specs.Growth.{Bounds}
-use Rattle.growth.specs.Tried.{scaled_least, answers_by, reloads_on, answers_under, scaled_latest, answers_on}
-use Rattle.growth.proofs.BoundLaws.{bounds-whole, bounds-same, bounds-both, bounds-either, bounds-second}
+use Rattle.growth.specs.Tried.{scaled_least, answers_by, reloads_on, answers_under, scaled_latest}
+use Rattle.growth.proofs.BoundLaws.{bounds-whole, bounds-same, bounds-both}
 
--- there is a later answer where there are both, and a sooner one where there is either
+-- there is a later answer where there are both
 later-some : (a b : Response) → has_response (later a b) ≡ (has_response a && has_response b)
 later-some (Within a) (Within b) = refl
 later-some (Within a) Unschedulable = refl
 later-some Unschedulable b = refl
-
-sooner-some : (a b : Response) → has_response (sooner a b) ≡ (has_response a || has_response b)
-sooner-some (Within a) (Within b) = refl
-sooner-some (Within a) Unschedulable = refl
-sooner-some Unschedulable b = refl
 
 -- the counts of a row are those of its method
 pub row-answers : (board row : List ℕ) (a : Access) (m i k : ℕ) → ChargedUnder board a m i 0 row → answers_by board row a i k ≡ answers_under board a m i k
@@ -92,29 +86,8 @@ module _ (board : List ℕ) (m i : ℕ) where
         → Bounds (over (blocking i (take (n + 1) accesses))) most r × (blocked ≡ length (blocking i (take (n + 1) accesses)))
     over-other r blocked e p = rw (next-blocking, e, append-nil) p
 
-  -- in the end: some may, or none, and then B stands alone
-  pub over-some : (l : List Access) (plain : Access) (most r blocked : ℕ) → blocked ≡ length l → 1 ≤ blocked → Bounds (over l) most r → Bounds (over (or_else plain l)) most r
-  over-some l plain most r blocked h some b = rw (← or_some plain l (omega arith)) b
-
+  -- in the end, where none may, B stands alone
   pub over_plain : (l : List Access) (plain : Access) (most r s blocked : ℕ) → blocked ≡ length l → blocked ≡ 0 → Bounds (over l) most r → Bounds (answers_under board plain m i) r s
       → Bounds (over (or_else plain l)) most s
   over_plain [] plain most r s blocked h none b q = over-more [] plain most r s b q
   over_plain (x ∷ l) plain most r s blocked h none b q = absurd (omega arith)
-
--- ---- the methods
-
-module _ (board : List ℕ) (blockers : List Access) (m i most : ℕ) where
-  abbrev by : ℕ → ℕ → Bool
-  by m k = has_response (scaled_latest board blockers m i k)
-
-  pub bounds-single : (r : ℕ) → m < 5 → Bounds (by m) most r → Bounds (answers_on board blockers m i) most r
-  bounds-single r h = bounds-same _ _ most r (λ k l d. ap has_response (combined-below (λ m. scaled_latest board blockers m i k) m h))
-
-  either : (m ≡ 5) → (k : ℕ) → (by 3 k || by 4 k) ≡ answers_on board blockers m i k
-  either e k = sym (sooner-some (scaled_latest board blockers 3 i k) (scaled_latest board blockers 4 i k)) ∙ ap has_response (combined-at (λ m. scaled_latest board blockers m i k) m e)
-
-  pub bounds-combined : (r s : ℕ) → m ≡ 5 → Bounds (by 3) most r → Bounds (by 4) most s → Bounds (answers_on board blockers m i) most (max r s)
-  bounds-combined r s e b c = bounds-same _ _ most (max r s) (λ k l d. either e k) (bounds-either _ _ most r s b c)
-
-  pub bounds-fourth : (r : ℕ) → m ≡ 5 → r ≡ most → Bounds (by 4) most r → Bounds (answers_on board blockers m i) most most
-  bounds-fourth r e all b = bounds-same _ _ most most (λ k l d. either e k) (bounds-second (by 3) (by 4) most (rw all at b))

@@ -1,6 +1,8 @@
 // How much growth is left. specs/Growth.antt says what that is. From the lowest task up, each is tried at the greatest k that those below it leave: most
 // have a response there, and only a task that has none is bisected. What its pre-emptions cost does not depend on C, so it is worked out once. Where no k
 // is left, no other task is looked at.
+#![tactic(auto)]
+
 ghost use Rattle.std.specs.Prelude.{◌≡◌, min, ◌+◌, ◌≤◌, get_or};
 ghost use Rattle.demand.specs.Positions.{front};
 ghost use Rattle.demand.specs.Demand.{demand_of};

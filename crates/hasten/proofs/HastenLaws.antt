@@ -1,58 +1,17 @@
 -- Facts about the hastened iteration. Assumes nothing.
-use Prim.Native.Nat.{ℕ, zero, suc, ◌+◌, ◌-◌, ◌*◌, ◌≤◌, ◌<◌, zero-le}
-use native.Mathlib.Nat.{div-mul-le_self, div-le_self, mul-le-mul_left, mul-le-mul_right}
-use native.Mathlib.Numerals.{add-one}
+use Prim.Native.Nat.{ℕ, ◌+◌, ◌-◌, ◌*◌, ◌≤◌, ◌<◌}
+use native.Mathlib.Nat.{div-mul-le_self, div-le_self, mul-le-mul_right}
 use native.Mathlib.Omega.{arith}
-use mathlib.Core.Path.{◌≡◌, refl, sym, ap}
-use Rattle.demand.specs.declared.Response.TheVariants.{Unschedulable}
-use Rattle.demand.specs.declared.Part.{Part}
+use mathlib.Core.Path.{◌≡◌, sym, ap}
+use Rattle.hasten.specs.declared.Part.{Part}
 use Rattle.demand.specs.Demand.{Term, ceil, work_of, demand_of}
 use Rattle.demand.specs.Terms.{InRange}
-use Rattle.demand.specs.Least.{Reached, least_of}
-use Rattle.demand.specs.Hasten.{share_of, shares_of, PartOf, TurnOf}
-use Rattle.demand.proofs.PositionLaws.{fold-none, fold_next}
-use Rattle.demand.proofs.LeastLaws.{Monotone, no-solution, climb}
-use Rattle.demand.proofs.DemandLaws.{ceil-le, ceil-mul, work-later, jitter-most, demand-none, demand-next}
-
--- ---- shares
-
--- in s ticks a term asks for its share of them and of its jitter at least
-share-le : (r q c w t : ℕ) → r ≤ c * t → q * t ≤ w * 17179869184 → r * q ≤ 17179869184 * (c * w)
-share-le r q c w t h k = omega (arith, mul-le-mul_right q h, mul-le-mul_left c k)
-
-work-share : (s : ℕ) (t : Term) → InRange t → (s + t.jitter) * share_of t ≤ 17179869184 * work_of s t
-work-share s t p =
-    share-le (s + t.jitter) (share_of t) (ceil (s + t.jitter) t.period) t.weight t.period (ceil-mul (s + t.jitter) t.period p.period)
-    (div-mul-le_self (t.weight * 17179869184) t.period)
-
--- ---- the shares of the terms together
-
-module _ (t : ℕ → Term) where
-  pub shares-none : shares_of t 0 ≡ 0
-  unfolding shares_of
-  shares-none = fold-none ◌+◌ 0 (λ j. share_of (t j)) 0
-
-  pub shares-next : (n : ℕ) → shares_of t (n + 1) ≡ shares_of t n + share_of (t n)
-  unfolding shares_of
-  shares-next n = sym (fold_next ◌+◌ 0 (λ j. share_of (t j)) 0 n _ _ zero-le refl refl)
-
-  -- the demand is no less than the task's own work and the shares
-  load-demand : (own n r : ℕ) → ((j : ℕ) → j < n → InRange (t j))
-      → own * 17179869184 + r * shares_of t n ≤ 17179869184 * demand_of own t n r
-  load-demand own zero r p = omega (arith, ap (λ (x : ℕ). r * x) shares-none, demand-none own t r)
-  load-demand own (suc n) r p =
-      omega (
-        arith,
-        load-demand own n r (λ j l. p j (omega arith)),
-        work-share r (t n) (p n (omega arith)),
-        ap (λ (x : ℕ). r * x) (rw add-one at (shares-next n)),
-        rw add-one at (demand-next own t r n),
-      )
-
-  -- no time equals its demand where the terms take the whole processor
-  pub full : (own n limit : ℕ) → ((j : ℕ) → j < n → InRange (t j)) → 1 ≤ own → 17179869184 ≤ shares_of t n
-      → Unschedulable ≡ least_of (demand_of own t n) limit
-  full own n limit p h k = no-solution _ limit (λ s e. omega (arith, load-demand own n s p, mul-le-mul_left s k))
+use Rattle.demand.specs.Least.{Reached}
+use Rattle.shares.specs.Shares.{share_of}
+use Rattle.shares.proofs.ShareLaws.{work-share}
+use Rattle.hasten.specs.Hasten.{PartOf, TurnOf}
+use Rattle.demand.proofs.LeastLaws.{Monotone, climb}
+use Rattle.demand.proofs.DemandLaws.{ceil-le, work-later, jitter-most, demand-none, demand-next}
 
 -- ---- the bound: what is left of the processor has to do the work that is counted
 

@@ -1,19 +1,10 @@
 -- What a turn of the hastened iteration knows. Some of the terms are taken by their shares of the processor, which has 2 ^ 34 parts, and the
 -- others are counted: what the shares leave has to do the work that is counted.
-use Prim.Native.Nat.{ℕ, ◌+◌, ◌*◌, ◌/◌, ◌≤◌}
-use mathlib.Core.Path.{◌≡◌}
-use Rattle.demand.specs.declared.Part.{Part}
-use Rattle.demand.specs.declared.Turn.{Turn}
-use Rattle.demand.specs.Positions.{hp, fold}
+use Rattle.std.specs.Prelude.{◌≡◌, ℕ, ◌+◌, ◌*◌, ◌≤◌}
+use Rattle.hasten.specs.declared.Part.{Part}
+use Rattle.hasten.specs.declared.Turn.{Turn}
 use Rattle.demand.specs.Demand.{Term, work_of}
 use Rattle.demand.specs.Least.{Reached}
-
--- the share of the processor that a term takes, rounded down, and those of the first n together
-abbrev pub share_of : Term → ℕ
-share_of t = t.weight * 17179869184 / t.period
-
-unfoldable pub shares_of : (ℕ → Term) → ℕ → ℕ
-shares_of terms n = fold ◌+◌ 0 (λ j. share_of (terms j)) (hp n)
 
 -- what a term adds to a bound from below, of `left` parts of the processor: its share of them, or what it asks for at r
 pub record PartOf (t : Term) (r left : ℕ) (p : Part) : Type 0 where

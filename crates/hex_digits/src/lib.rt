@@ -1,14 +1,17 @@
 // Hex digits: what a byte says, and what the bytes of a field say, as specs/Hex.antt has it.
+#![tactic(auto)]
+
 ghost use Rattle.std.specs.Prelude.{◌≡◌, ◌-◌, ◌≤◌, length};
 ghost use Rattle.hex_digits.specs.Hex.{hex_digit, digit_says, read_hex, word_says, four_words_say};
 
 // What a byte is as a hex digit.
-#[derive(Drop)]
+#[derive(Clone, Copy)]
 enum Digit {
     Is(u64),
     None,
 }
 
+#[tactic(auto, using(std::proofs::lemmas::Bool::Decides::nat_tests), unfolding(crate::specs::Hex::hex_digit))]
 fn read_digit(b: u8) -> Digit
     ensures { digit_says result ≡ hex_digit b }
 {
@@ -20,7 +23,7 @@ fn read_digit(b: u8) -> Digit
 }
 
 // What up to sixteen bytes are as hex digits.
-#[derive(Drop)]
+#[derive(Clone, Copy)]
 enum Word {
     Is(u64),
     None,
@@ -43,7 +46,7 @@ fn read_word(part: &[u8]) -> Word
 }
 
 // What up to sixty-four bytes are as hex digits, the most significant word first.
-#[derive(Drop)]
+#[derive(Clone, Copy)]
 pub enum Words {
     Are(u64, u64, u64, u64),
     None,

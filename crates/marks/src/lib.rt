@@ -1,4 +1,6 @@
 // Sets of cache sets as the hex digits of a field. specs/Marks.antt says which digits, and when a field can hold a set.
+#![tactic(auto)]
+
 ghost use Rattle.std.specs.Prelude.{◌≡◌, ◌+◌, ◌/◌, ◌^◌, ◌≤◌, ◌<◌, ltb, length};
 ghost use Rattle.writer.specs.Wrote.{Wrote};
 ghost use Rattle.marks.specs.Marks.{hex_byte, hex_digits, marks_text, bits_in, word_list, marks_fit};
@@ -6,6 +8,7 @@ ghost use Rattle.marks.specs.Marks.{hex_byte, hex_digits, marks_text, bits_in, w
 use sets::CacheSet;
 use writer::put_byte;
 
+#[tactic(auto, unfolding(crate::specs::Marks::hex_byte))]
 fn hex_byte(digit: u64) -> u8
     requires { digit < 16 }
     ensures { result ≡ hex_byte digit }
@@ -33,6 +36,7 @@ fn put_word(out: &mut [u8], at: usize, word: u64, digits: usize) -> usize
 }
 
 // How many of so many cache sets have their bit in word k.
+#[tactic(auto, unfolding(crate::specs::Marks::bits_in))]
 fn bits_in(sets: u64, k: u64) -> usize
     requires { k < 4 }
     ensures { (result ≡ bits_in sets k) × (result ≤ 64) }
@@ -46,6 +50,7 @@ fn bits_in(sets: u64, k: u64) -> usize
 }
 
 // The words of a set, the lowest cache sets first.
+#[tactic(auto, unfolding(sets::specs::Stored::stored_at))]
 fn words_of(marks: CacheSet) -> [u64; 4]
     ensures { result ≡ word_list marks }
 {
@@ -55,6 +60,7 @@ fn words_of(marks: CacheSet) -> [u64; 4]
 }
 
 // The field of a set, the most significant word first. A word that has no cache set has no digit.
+#[tactic(auto, using(crate::proofs::Digits::words_long))]
 pub fn put_marks(out: &mut [u8], at: usize, sets: u64, marks: CacheSet) -> usize
     requires sets_bound { sets ≤ 256 }
     requires sets_in_bounds { at + sets / 4 ≤ length out.old }
@@ -68,6 +74,7 @@ pub fn put_marks(out: &mut [u8], at: usize, sets: u64, marks: CacheSet) -> usize
 }
 
 // Whether a word has no bit beyond its lowest ones, so many of them.
+#[tactic(auto, using(crate::proofs::Fitting::nothing_above))]
 fn word_fits(word: u64, bits: usize) -> bool
     requires { bits ≤ 64 }
     ensures { result ≡ ltb word (2 ^ bits) }
@@ -76,6 +83,7 @@ fn word_fits(word: u64, bits: usize) -> bool
 }
 
 // Whether every mark is that of one of so many cache sets.
+#[tactic(auto, unfolding(crate::specs::Marks::marks_fit))]
 pub fn marks_fit(sets: u64, marks: CacheSet) -> bool
     ensures { result ≡ marks_fit sets marks }
 {

@@ -1,15 +1,14 @@
 -- The need of a board's task is that of the table's, and what a need says of the response. Assumes nothing.
 use Prim.Native.Nat.{ℕ, ◌+◌, max, ◌≤◌, ◌<◌}
 use native.Mathlib.Decide.{dec_le}
-use native.Mathlib.Numerals.{add-one}
 use native.Mathlib.Omega.{arith}
 use mathlib.Core.Path.{◌≡◌, refl, sym, ap, ap₂, ◌∙◌, fun_ext}
 use mathlib.Core.Bool.{Bool, true, false, cond}
-use mathlib.Core.List.{List, [], ◌∷◌, map, map-append, foldl, foldl-append}
+use mathlib.Core.List.{List, [], ◌∷◌, map, foldl}
 use lib.Dec.{eqb, ltb, leb}
 use lib.ListN.{length, get_or, take}
-use lib.Seq.{take-suc, get_or-take}
-use borrow.Author.Tests.{eq-eqb, ne_eqb, eqb-false, le-leb, lt-leb, le-ltb, ltb-true, ltb-false}
+use lib.Seq.{get_or-take}
+use borrow.Author.Tests.{eq-eqb, ne_eqb, eqb-false, le-leb, lt-leb, ltb-true, ltb-false}
 use Rattle.units.specs.declared.Ticks.{Ticks}
 use Rattle.demand.specs.declared.Response.{Response}
 use Rattle.demand.specs.declared.Response.TheVariants.{Within, Unschedulable}
@@ -55,30 +54,11 @@ need-by P N m h each = go (eqb m 5) refl
 
 -- ---- over the accesses that may block, one after the other
 
-larger-self : (a : Need) → larger_need a a ≡ a
-larger-self a = go a.time refl
-  where
-    go : (t : Response) → a.time ≡ t → cond (is_sooner t t) a a ≡ a
-    go (Within x) e = simp (le-ltb x.0 x.0 (omega arith))
-    go Unschedulable e = refl
-
 -- the largest over the first n
 abbrev pub so_far : (Access → Need) → List Access → ℕ → Need
 so_far W blockers n = foldl larger_need (W (get_or blockers 0 empty_access)) (map W (take n blockers))
 
-module _ (W : Access → Need) (blockers : List Access) (long : length blockers ≡ 32) where
-  pub largest-first : W (get_or blockers 0 empty_access) ≡ so_far W blockers 1
-  largest-first =
-      sym (ap (λ (l : List Access). foldl larger_need (W (get_or blockers 0 empty_access)) (map W l)) (take-suc blockers 0 empty_access (omega arith))
-      ∙ larger-self (W (get_or blockers 0 empty_access)))
-
-  pub largest_step : (n : ℕ) → n < 32 → larger_need (so_far W blockers n) (W (get_or blockers n empty_access)) ≡ so_far W blockers (n + 1)
-  largest_step n h =
-      let z = W (get_or blockers 0 empty_access) in
-      sym (foldl-append larger_need z (map W (take n blockers)) (W (get_or blockers n empty_access) ∷ []))
-      ∙ ap (foldl larger_need z) (sym (map-append W (take n blockers) (get_or blockers n empty_access ∷ [])))
-      ∙ ap (λ (l : List Access). foldl larger_need z (map W l)) (sym (take-suc blockers n empty_access (omega arith)) ∙ ap (λ (k : ℕ). take k blockers) (sym (add-one n)))
-
+module _ (W : Access → Need) (blockers : List Access) where
   pub largest-end : (n : ℕ) → 1 ≤ n → so_far W blockers n ≡ largest_need W (take n blockers)
   largest-end n h = ap (λ (a : Access). foldl larger_need (W a) (map W (take n blockers))) (sym (get_or-take n blockers 0 empty_access h))
 

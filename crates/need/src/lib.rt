@@ -1,5 +1,7 @@
 // What a task needs, whatever its limit is, by which method, and what blocks it then: the figure that an explanation is about. specs/Needs.antt says what
 // that is.
+#![tactic(auto)]
+
 ghost use Rattle.std.specs.Prelude.{◌≡◌, ◌+◌, ◌≤◌, take};
 ghost use Rattle.board.specs.Board.{Lent};
 ghost use Rattle.one_row.specs.Row.{Charged};
@@ -15,7 +17,7 @@ use units::Ticks;
 const FURTHEST: u64 = 250000000;
 
 // What a task needs, the method under which it does, and the access that blocks it then.
-#[derive(Drop)]
+#[derive(Clone, Copy)]
 pub struct Need {
     pub method: u64,
     pub time: Response,

@@ -1,13 +1,10 @@
 -- The search for the largest value: in which order the positions are looked at does not matter, and some need not be looked at. Assumes nothing.
 use Prim.Native.Nat.{ℕ, ◌+◌, ◌≤◌, ◌<◌}
-use native.Mathlib.Decide.{ℕ_discrete}
 use native.Mathlib.Omega.{arith}
-use mathlib.Core.Path.{◌≡◌, refl, sym, ap}
+use mathlib.Core.Path.{◌≡◌, refl}
 use mathlib.Core.Bool.{Bool, true, false, cond, ◌&&◌, ◌||◌}
 use mathlib.Core.Logic.{◌⊎◌, inl, inr, ⊎_elim}
 use mathlib.Core.List.{List}
-use lib.ListN.{set, length-set}
-use lib.Seq.{get_or-set_same, get_or-set_other}
 use lib.Dec.{ltb, eqb}
 use borrow.Author.Count.{below_more}
 use borrow.Author.Tests.{ltb-true, ltb-false, eqb-true, eqb-false}
@@ -45,22 +42,6 @@ module _ (P : Bool → Type 0) (a b : Hit) (is : Ahead a b → P true) (is-not :
 ahead-by : (P : Hit → Type 0) (a b : Hit) → (Ahead b a → P b) → (Behind b a → P a) → P (ahead_of a b)
 ahead-by P a b second first = ahead-test (λ t. P (cond t b a)) b a second first
 
-pub ahead-is : (a b : Hit) (t : Bool) → is_ahead b a ≡ t → cond t b a ≡ ahead_of a b
-ahead-is a b t e = ap (λ (t : Bool). cond t b a) (sym e)
-
--- a position whose bound is not ahead need not be looked at
-pub ahead-passed : (best : Hit) (k n most : ℕ) → n ≤ most → is_ahead (hit most k) best ≡ false → best ≡ ahead_of best (hit n k)
-ahead-passed best k n most h e = ahead-by (λ r. best ≡ r) best (hit n k) (λ a. absurd (never a)) (λ _. refl)
-  where
-    behind : Behind (hit most k) best
-    behind =
-        ahead-test (λ t. t ≡ false → Behind (hit most k) best) (hit most k) best
-        (λ _ f. absurd (let z : ◌≡◌ {A = ℕ} 0 1 = cc in omega arith)) (λ b _. b) e
-
-    never : Ahead (hit n k) best → ⊥
-    never (inl l) = omega (arith, behind.0)
-    never (inr p) = omega (arith, behind.1 p.1)
-
 -- ---- the search
 
 -- the best so far, begun at any of the positions: none that was passed is ahead of it
@@ -72,18 +53,6 @@ pub record Leads (F : ℕ → ℕ) (from to k : ℕ) (best : Hit) : Type 0 where
   pub first : (l : ℕ) → from ≤ l → l < k → l < best.victim → F l < best.reloads.0
 
 module _ (F : ℕ → ℕ) (from to : ℕ) where
-  pub leads_one : (p : ℕ) → from ≤ p → p < to → Leads F from to from (ahead_of (hit 0 p) (hit (F p) p))
-  leads_one p h l = ahead-by (Leads F from to from) (hit 0 p) (hit (F p) p) (λ _. here (F p) refl) (λ d. here 0 (omega arith))
-    where
-      here : (n : ℕ) → F p ≡ n → Leads F from to from (hit n p)
-      here n e = record {
-        from_on = h;
-        below = l;
-        value = e;
-        most = λ m g b. absurd (omega arith);
-        first = λ m g b d. absurd (omega arith);
-      }
-
   pub leads-next : (k : ℕ) (best : Hit) → from ≤ k → k < to → Leads F from to k best → Leads F from to (k + 1) (ahead_of best (hit (F k) k))
   leads-next k best h l p =
       ahead-by (Leads F from to (k + 1)) best (hit (F k) k)
@@ -115,16 +84,6 @@ module _ (F : ℕ → ℕ) (from to : ℕ) where
 -- ---- the bounds
 
 module _ {F : ℕ → ℕ} {bounds : List ℕ} (p : AtMost F bounds) where
-  -- one that was looked at
-  pub bound-put : (k v : ℕ) → v ≡ F k → AtMost F (set bounds k v)
-  bound-put k v e = record {
-    long = simp length-set p.long;
-    each = λ l h. elim (ℕ_discrete l k) [
-      | yes s ↦ rw (s, get_or-set_same bounds k v 0 (omega (arith, p.long))) (omega arith)
-      | no d ↦ rw (get_or-set_other bounds k l v 0 d) (p.each l h)
-    ];
-  }
-
   -- they bound what is smaller everywhere, too
   pub bound-less : (G : ℕ → ℕ) → ((k : ℕ) → G k ≤ F k) → AtMost G bounds
   bound-less G h = record { long = p.long; each = λ k l. omega (arith, h k, p.each k l) }

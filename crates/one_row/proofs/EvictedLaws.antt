@@ -42,11 +42,7 @@ module _ {board : List ℕ} (i : ℕ) (few : i < 32) where
 
   module _ {row bounds : List ℕ} {likely : ℕ} (from j : ℕ) (next : from ≡ j + 1) (p : Evicted board i from row bounds likely)
       (ecbs : Set) (down : ecbs ≡ union_of (ecb_on board) (hp (j + 1))) where
-    -- what the search is told
-    pub evicted-bounds : AtMost (shared_on board ecbs) bounds
-    evicted-bounds = rw down (rw next at p.bounded)
-
-    -- and what it leaves
+    -- what the search leaves
     pub evicted-next : {after : List ℕ} (shared : Hit) → shared ≡ largest_at (shared_on board ecbs) (between from (i + 1))
         → AtMost (shared_on board ecbs) after → Evicted board i j (hit_put row j shared) after shared.victim
     evicted-next shared found bounds =

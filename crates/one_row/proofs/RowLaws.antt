@@ -2,7 +2,7 @@
 use Prim.Native.Nat.{ℕ, ◌+◌, ◌≤◌, ◌<◌}
 use native.Mathlib.Nat.{eq-or-lt_of_le}
 use native.Mathlib.Omega.{arith}
-use mathlib.Core.Path.{◌≡◌, refl, sym, subst, ap, ◌∙◌}
+use mathlib.Core.Path.{◌≡◌, refl, subst, ap, ◌∙◌}
 use mathlib.Core.Bool.{Bool, true, false, cond}
 use mathlib.Core.Logic.{⊎_elim}
 use mathlib.Core.List.{List}
@@ -35,10 +35,6 @@ charged-nothing board i few = record { long = refl; each = λ j h l. ap no_victi
 -- the method that the code has found m to be
 pub charged-by : (board : List ℕ) {row : List ℕ} {i : ℕ} (m k : ℕ) → m ≡ k → Charged board k i 0 row → Charged board m i 0 row
 charged-by board m k e p = rw e p
-
--- the charge where the method is known to have a victim or none
-pub charge-in : (row : List ℕ) (m j : ℕ) (t : Bool) → has_victim m ≡ t → cond t (Victim (hit_on row j)) (no_victim (get_or row j 0)) ≡ charge_in row m j
-charge-in row m j t e = ap (λ (t : Bool). cond t (Victim (hit_on row j)) (no_victim (get_or row j 0))) (sym e)
 
 -- the reloads of a charge are the number in the row
 pub reloads-in : (row : List ℕ) (m j : ℕ) → reloads_in (charge_in row m j) ≡ get_or row j 0

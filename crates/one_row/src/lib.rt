@@ -1,6 +1,8 @@
 // What the tasks above one task are charged and ask for: one row, gone through once. From a task above to the next higher one aff gets one position
 // more, in front, so what is gathered over it is carried up from the last task above to the first. The union of the ECBs is carried down.
 // specs/Row.antt says what stands where in a row.
+#![tactic(auto)]
+
 mod search;
 
 ghost use Rattle.std.specs.Prelude.{◌≡◌, ◌+◌, ◌<◌, ◌≤◌, length};

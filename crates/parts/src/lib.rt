@@ -1,4 +1,6 @@
 // The parts of the work, each as often as asked, for a benchmark to time apart. specs/Parts.antt says what each gives.
+#![tactic(auto)]
+
 ghost use Rattle.std.specs.Prelude.{◌≡◌};
 ghost use Rattle.table.specs.Accepted.{AcceptedTable};
 ghost use Rattle.table_text.specs.TableText.{table_text};

@@ -1,7 +1,7 @@
 -- What a text that is accepted leaves in the table: every place passes the tests, and the lines are those that are written of it. Assumes nothing.
 use Prim.Native.Nat.{ℕ, ◌+◌, ◌≤◌, ◌<◌}
 use mathlib.Core.Path.{◌≡◌, refl, sym, ap, ◌∙◌}
-use mathlib.Core.Bool.{true, false, not}
+use mathlib.Core.Bool.{true, false}
 use mathlib.Core.List.{List, [], ◌∷◌, ◌++◌, map, flat_map, append-nil, append_assoc}
 use native.Mathlib.Nat.{not-suc-le-zero}
 use native.Mathlib.Decide.{dec_lt}
@@ -29,7 +29,7 @@ use Rattle.table.specs.declared.Table.{Table}
 use Rattle.table.specs.declared.Outcome.{Outcome}
 use Rattle.table.specs.declared.Ruling.TheVariants.{Accepted}
 use Rattle.table.specs.Tasks.{new_table, tasks_of, names_of, accesses_of, with_task, with_access}
-use Rattle.table.specs.Reading.{refused, accepted, unless_fault, with_line, head_table, read_from, read_lines, read_text}
+use Rattle.table.specs.Reading.{accepted, unless_fault, with_line, head_table, read_from, read_lines, read_text}
 use Rattle.table_text.specs.TableText.{head_text, task_text, access_text, access_text_in, table_text}
 use Rattle.readable.specs.Tests.{is_fine, head_of, line_of_task, is_vacant, names_before, is_placed, line_of_access, is_unused, is_entered, is_readable}
 use Rattle.readable.proofs.Places.{every-is, next-placed, vacant-placed, next-allowed, unused-allowed}

@@ -10,7 +10,7 @@ use borrow.Author.Tests.{eqb-true, eq-eqb, ne_eqb, lt-ltb, lt-leb}
 use lib.Dec.{eqb, leb, ltb}
 use lib.ListN.{length, take, drop, take-append-drop}
 use lib.Seq.{take_all, drop-append_seam}
-use Rattle.text.specs.Cut.{after, occurrences, past_tabs, field, field_count}
+use Rattle.text.specs.Cut.{occurrences, past_tabs, field, field_count}
 use Rattle.text.proofs.Parts.{up-to-part}
 use Rattle.fields.specs.Bytes.{every_byte, is_name_byte, same_bytes}
 use Rattle.fields.specs.Fields.{is_number, number, is_letter, has_shape, is_name}

@@ -1,4 +1,6 @@
 // Whether a table value is one that a text gives. specs/Readable.antt says what that means, and specs/Tests.antt has the tests.
+#![tactic(auto)]
+
 ghost use Rattle.std.specs.Prelude.{◌≡◌, false, take};
 ghost use Rattle.faults.specs.Faults.{task_fault};
 ghost use Rattle.readable.specs.Tests.{is_fine, is_filled, line_of_task, is_vacant, is_placed, line_of_access, is_unused, is_allowed, is_entered, every_below, is_readable};
@@ -29,6 +31,7 @@ fn is_filled(name: Name) -> bool
     fields::is_name(text) & fields::same_bytes(&bytes[end..], &fillers[end..])
 }
 
+#[tactic(auto, unfolding(crate::specs::Tests::line_of_task))]
 fn line_of_task(sets: u64, task: Task) -> TaskLine
     ensures { result ≡ line_of_task sets task }
 {
@@ -50,6 +53,7 @@ fn is_next(k: usize, names: [Name; 32], sets: u64, task: Task) -> bool
 }
 
 // Whether a place has no task: a set without marks fits where there is no cache set.
+#[tactic(auto, unfolding(crate::specs::Tests::is_vacant))]
 fn is_vacant(task: Task) -> bool
     ensures { result ≡ is_vacant task }
 {
@@ -87,6 +91,7 @@ fn all_placed(table: Table) -> bool
     true
 }
 
+#[tactic(auto, unfolding(crate::specs::Tests::line_of_access))]
 fn line_of_access(sets: u64, access: Access) -> AccessLine
     ensures { result ≡ line_of_access sets access }
 {
@@ -100,6 +105,7 @@ fn line_of_access(sets: u64, access: Access) -> AccessLine
 }
 
 // Whether an access place has no access.
+#[tactic(auto, unfolding(crate::specs::Tests::is_unused))]
 fn is_unused(access: Access) -> bool
     ensures { result ≡ is_unused access }
 {
@@ -107,6 +113,7 @@ fn is_unused(access: Access) -> bool
 }
 
 // Whether access place n holds what it may, in a table of `count` tasks and `held` accesses.
+#[tactic(auto, unfolding(crate::specs::Tests::is_allowed))]
 fn is_allowed(held: usize, count: usize, sets: u64, n: usize, access: Access) -> bool
     ensures { result ≡ is_allowed held count sets n access }
 {
@@ -133,6 +140,7 @@ fn all_entered(table: Table) -> bool
 }
 
 // Whether some accepted text reads as this table.
+#[tactic(auto, unfolding(crate::specs::Tests::is_readable))]
 pub fn is_readable(table: Table) -> bool
     ensures { result ≡ is_readable table }
 {

@@ -1,4 +1,6 @@
 // The report of a table.
+#![tactic(auto)]
+
 mod lines;
 
 ghost use Rattle.verdicts.specs.Rows.{answers_in};

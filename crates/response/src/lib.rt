@@ -1,4 +1,6 @@
 // The search for the smallest time that equals the demand of a task. specs/Counts.antt says how often its terms are known to be activated.
+#![tactic(auto)]
+
 ghost use Rattle.std.specs.Prelude.{◌≡◌, true, cond, ℕ, ◌+◌, ◌≤◌, ◌<◌, length, get_or};
 ghost use Rattle.demand.specs.Positions.{front};
 ghost use Rattle.demand.specs.Demand.{demand_of};
@@ -110,7 +112,7 @@ fn finish(
     ensures started { Started own (term_in releases.now weights.now) n counts.new ends.new }
 {
     let start = asked(own, weights, n, counts);
-    let found = demand::hasten(own, releases, weights, n, limit, start);
+    let found = hasten::hasten(own, releases, weights, n, limit, start);
     if let Response::Within(time) = found {
         advance(own, releases, weights, n, time.0, counts, ends);
         return time.0;

@@ -1,71 +1,34 @@
 -- Facts about what is asked for in a round. Assumes nothing.
-use Prim.Native.Nat.{ℕ, zero, suc, ◌+◌, ◌-◌, ◌*◌, ◌/◌, ◌%◌, ◌≤◌, ◌<◌}
-use native.Mathlib.Nat.{div-mul-le_self, div-add-mod', mod-lt, mul-le-mul, mul-le-mul_right, lt_of_not-le}
+use Prim.Native.Nat.{ℕ, ◌+◌, ◌-◌, ◌*◌, ◌/◌, ◌%◌, ◌≤◌, ◌<◌}
+use native.Mathlib.Nat.{div-mul-le_self, div-add-mod', mod-lt}
 use native.Mathlib.Omega.{arith}
 use mathlib.Core.Path.{◌≡◌, refl, sym, ap, subst, ◌∙◌}
-use mathlib.Core.Bool.{Bool, true, false, cond}
+use mathlib.Core.Bool.{Bool, true, false, cond, ◌&&◌, false≢true}
 use mathlib.Core.Logic.{◌⊎◌, inl, inr}
 use mathlib.Core.List.{List}
 use lib.Dec.{eqb}
-use lib.ListN.{get_or, length, set, length-set}
-use lib.Seq.{get_or-set_same, get_or-set_other}
-use borrow.Author.Count.{below_more}
-use borrow.Author.Tests.{eqb-true}
+use lib.ListN.{get_or, length, replicate, length-replicate}
+use Rattle.std.proofs.lemmas.List.{get_or-replicate}
+use borrow.Author.Tests.{eq-eqb, eqb-true}
 use Rattle.demand.specs.Demand.{Term, ceil, work_of}
 use Rattle.demand.specs.Terms.{InRange}
 use Rattle.demand.proofs.DemandLaws.{ceil-mul, ceil-is}
 use Rattle.shares.specs.Shares.{share_of}
 use Rattle.shares.proofs.ShareLaws.{release-share, work-share}
 use Rattle.rounds.specs.Classes.{in_class, AskMore}
-use Rattle.rounds.specs.Rounds.{Near, lack_of, lack_in, lacks_of, Lacking, LacksIn, LeastOver, Blocked, IsStep, place_of, WindowsIn, window_at, Windowed, Tabled}
-use Rattle.rounds.proofs.ClassLaws.{ask-each}
+use Rattle.rounds.specs.Rounds.{lack_of, lack_in, lacks_of, Added, LacksIn, LeastOver, Blocked, IsStep, place_of, WindowsIn, Windowed, Tabled}
+use Rattle.rounds.proofs.ClassLaws.{over_none, over-next, ask-each}
 
 -- ---- one term
 
--- the first release that is no sooner
-pub near-past : (period at release : ℕ) → 1 ≤ period → Near period at release → release < at → release + period ≡ ceil at period * period
-near-past period at release some near h =
-    let k = near.0 in
-    let e : k + 1 ≡ ceil at period = ceil-is at (k + 1) period some (omega (arith, near.1, near.3)) (omega (arith, near.1)) in
-    omega (arith, near.1, ap (λ (z : ℕ). z * period) e)
-
-pub near-there : (period at release : ℕ) → 1 ≤ period → Near period at release → at ≤ release → release ≡ ceil at period * period
-near-there period at release some near h =
-    let k = near.0 in
-    let e : k ≡ ceil at period = ceil-is at k period some (omega (arith, near.1)) (omega (arith, near.1, near.2)) in
-    omega (arith, near.1, ap (λ (z : ℕ). z * period) e)
-
-pub ceil-before : (x t : ℕ) → 1 ≤ t → ceil x t * t < x + t
+ceil-before : (x t : ℕ) → 1 ≤ t → ceil x t * t < x + t
 ceil-before x t h = omega (arith, div-mul-le_self (x + (t - 1)) t)
-
--- it is near the next tick, too
-pub near_next : (period at : ℕ) → 1 ≤ period → Near period (at + 1) (ceil at period * period)
-near_next period at h = (ceil at period, refl, omega (arith, ceil-before at period h), omega (arith, ceil-mul at period h))
-
--- what one term lacks at most
-pub lack-most : (period jitter share x : ℕ) → 1 ≤ period → period ≤ 16384 → jitter ≤ period → share ≤ 17179869184 → lack_of period jitter share x ≤ 562949953421312
-lack-most period jitter share x some short jitters shares =
-    mul-le-mul {n₂ = 32768} {m₂ = 17179869184} (omega (arith, ceil-before (x + jitter) period some)) shares
 
 -- a term added at the first i ticks, and not yet at the others
 pub record Adding (period jitter share i : ℕ) (before after : List ℕ) : Type 0 where
   pub long : length after ≡ 18952
   pub each : (x : ℕ) → x < i → get_or after x 0 ≡ get_or before x 0 + lack_of period jitter share x
   pub rest : (x : ℕ) → i ≤ x → get_or after x 0 ≡ get_or before x 0
-
-module _ (period jitter share : ℕ) (before : List ℕ) where
-  pub adding-none : length before ≡ 18952 → Adding period jitter share 0 before before
-  adding-none h = record { long = h; each = λ x l. absurd (omega arith); rest = λ x l. refl }
-
-  pub adding-next : (i y : ℕ) (after : List ℕ) → i < 18952 → y ≡ lack_of period jitter share i → Adding period jitter share i before after
-      → Adding period jitter share (i + 1) before (set after i (get_or after i 0 + y))
-  adding-next i y after few is a = record {
-    long = simp length-set a.long;
-    each = below_more (λ x. get_or (set after i (get_or after i 0 + y)) x 0 ≡ get_or before x 0 + lack_of period jitter share x) i
-        (λ x l. get_or-set_other after i x _ 0 (λ z. omega arith) ∙ a.each x l)
-        (get_or-set_same after i _ 0 (omega (arith, a.long)) ∙ omega (arith, a.rest i (omega arith)));
-    rest = λ x l. get_or-set_other after i x _ 0 (λ z. omega arith) ∙ a.rest x (omega arith);
-  }
 
 -- in a round that the period divides, the releases come again
 module _ (ticks : ℕ) (t : Term) (p : InRange t) where
@@ -105,6 +68,56 @@ module _ (classes : List ℕ) (round ticks : ℕ) (t : ℕ → Term) (n : ℕ) (
   unfolding lacks_of
   lacks-asked c x = ask-each (in_class classes round) t (c * ticks + x) (λ j. lack_in ticks (t j) x) n (λ j l. lack-asked ticks (t j) (ranged j l) c x)
 
+-- ---- one term more of a round, or of none
+
+pub both-equal : (a b c d : ℕ) → (eqb a b && eqb c d) ≡ true → (a ≡ b) × (c ≡ d)
+both-equal a b c d h = go (eqb a b) (eqb c d) refl refl h
+  where
+    go : (x y : Bool) → eqb a b ≡ x → eqb c d ≡ y → (x && y) ≡ true → (a ≡ b) × (c ≡ d)
+    go true true e f h = (eqb-true _ _ e, eqb-true _ _ f)
+    go true false e f h = absurd (false≢true h)
+    go false y e f h = absurd (false≢true h)
+
+module _ (classes : List ℕ) (round ticks : ℕ) (t : ℕ → Term) where
+  lacks_none : (x : ℕ) → lacks_of classes round ticks t 0 x ≡ 0
+  unfolding lacks_of
+  lacks_none x = over_none (in_class classes round) (λ j. lack_in ticks (t j) x)
+
+  lacks-next : (n x : ℕ) → lacks_of classes round ticks t (n + 1) x ≡ lacks_of classes round ticks t n x + cond (in_class classes round n) (lack_in ticks (t n) x) 0
+  unfolding lacks_of
+  lacks-next n x = over-next (in_class classes round) (λ j. lack_in ticks (t j) x) n
+
+  pub lacks-in_none : (count : ℕ) → count ≤ 18952 → LacksIn t 0 classes round ticks count (replicate 18952 0)
+  lacks-in_none count few = record {
+    lacking = record { long = length-replicate {A = ℕ} 18952 0; most = λ x l. omega (arith, get_or-replicate {A = ℕ} 18952 x 0 0 (omega arith)) };
+    each = λ x l. get_or-replicate {A = ℕ} 18952 x 0 0 (omega arith) ∙ sym (lacks_none x);
+  }
+
+  pub lacks-in-one : (n count share : ℕ) (before after : List ℕ) → get_or classes n 0 ≡ round → ticks % (t n).period ≡ 0 → share ≡ share_of (t n)
+      → LacksIn t n classes round ticks count before → Added (t n).period (t n).jitter share count before after
+      → LacksIn t (n + 1) classes round ticks count after
+  lacks-in-one n count share before after e f q r d = record {
+    lacking = record { long = d.long; most = λ x l. omega (arith, d.each x l, d.each-most x l, r.lacking.most x l) };
+    each = λ x l. omega (
+      arith,
+      rw q at (d.each x l),
+      r.each x l,
+      rw (eq-eqb _ _ e, eq-eqb _ _ f) at (lacks-next n x),
+    );
+  }
+
+  pub lacks-in-other : (n count : ℕ) (lacks : List ℕ) → (eqb (get_or classes n 0) round && eqb (ticks % (t n).period) 0) ≡ false
+      → LacksIn t n classes round ticks count lacks → LacksIn t (n + 1) classes round ticks count lacks
+  lacks-in-other n count lacks h r = record {
+    lacking = record { long = r.lacking.long; most = λ x l. omega (arith, r.lacking.most x l) };
+    each = λ x l. omega (arith, r.each x l, lacks-next n x, neither (eqb (get_or classes n 0) round) (eqb (ticks % (t n).period) 0) (lack_of (t n).period (t n).jitter (share_of (t n)) x) h);
+  }
+    where
+      neither : (a b : Bool) (y : ℕ) → (a && b) ≡ false → cond a (cond b y 0) 0 ≡ 0
+      neither true true y h = absurd (false≢true (sym h))
+      neither true false y h = refl
+      neither false b y h = refl
+
 -- ---- windows
 
 -- what holds of each step
@@ -114,11 +127,139 @@ by-step P a b c d step (inr (inl e)) = subst P (sym e) b
 by-step P a b c d step (inr (inr (inl e))) = subst P (sym e) c
 by-step P a b c d step (inr (inr (inr e))) = subst P (sym e) d
 
--- the stretch of a whole division
-spread : (x k : ℕ) → 1 ≤ k → (x / k * k ≤ x) × (x < x / k * k + k)
-spread x k h = (div-mul-le_self x k, omega (arith, div-add-mod' x k, mod-lt x h))
+-- the windows before the k-th are made, and the other entries stand
+pub record Opening (blocks : List ℕ) (step first k : ℕ) (before after : List ℕ) : Type 0 where
+  pub long : length after ≡ 32768
+  pub each : (j : ℕ) → j < k → LeastOver blocks (step * j) (5 * step) (get_or after (first + j) 0)
+  pub others : (i : ℕ) → (i < first) ⊎ (first + k ≤ i) → get_or after i 0 ≡ get_or before i 0
 
--- one number more
-pub least-next : (list : List ℕ) (from i least r : ℕ) → ((k : ℕ) → from ≤ k → k < i → least ≤ get_or list k 0) → r ≤ least → r ≤ get_or list i 0
-    → (k : ℕ) → from ≤ k → k < i + 1 → r ≤ get_or list k 0
-least-next list from i least r so_far h l k o m = below_more (λ k. from ≤ k → r ≤ get_or list k 0) i (λ k n o. omega (arith, so_far k o n)) (λ o. l) k m o
+-- when all windows of a round are made
+module _ (blocks : List ℕ) (round ticks : ℕ) (before after : List ℕ) where
+  Whole : ℕ → Type 0
+  Whole step = (k : ℕ) → (ticks + (8 * step - 1)) / (8 * step) ≤ k → k ≤ (ticks + (8 * step - 1)) / (8 * step)
+      → Opening blocks step (4096 * round + 2048 / step) k before after → WindowsIn blocks round ticks step before after
+
+  whole-of : (step : ℕ) → ((k j : ℕ) → (ticks + (8 * step - 1)) / (8 * step) ≤ k → j * (8 * step) < ticks → j < k)
+      → ((ticks + (8 * step - 1)) / (8 * step) ≤ 2048 / step) → Whole step
+  unfolding Whole
+  whole-of step all few k least most o = record {
+    long = o.long;
+    each = λ j l. o.each j (all k j least l);
+    others = λ i l. o.others i (apart i l);
+  }
+    where
+      apart : (i : ℕ) → (i < 4096 * round + 2048 / step) ⊎ (4096 * round + 2 * (2048 / step) ≤ i) → (i < 4096 * round + 2048 / step) ⊎ (4096 * round + 2048 / step + k ≤ i)
+      apart i (inl h) = inl h
+      apart i (inr h) = inr (omega arith)
+
+  pub opened : (step : ℕ) → IsStep step → ticks ≤ 16384 → (k : ℕ) → (ticks + (8 * step - 1)) / (8 * step) ≤ k → k ≤ (ticks + (8 * step - 1)) / (8 * step)
+      → Opening blocks step (4096 * round + 2048 / step) k before after → WindowsIn blocks round ticks step before after
+  unfolding Whole
+  opened step is short =
+      by-step Whole
+      (whole-of 1 (λ k j h l. omega arith) (omega arith))
+      (whole-of 4 (λ k j h l. omega arith) (omega arith))
+      (whole-of 16 (λ k j h l. omega arith) (omega arith))
+      (whole-of 64 (λ k j h l. omega arith) (omega arith))
+      step is
+
+-- ---- all windows of a round
+
+module _ (t : ℕ → Term) (n : ℕ) (classes : List ℕ) (round ticks count : ℕ) (lacks blocks : List ℕ) (few : n ≤ 32) (ranged : (j : ℕ) → j < n → InRange (t j))
+    (some : 1 ≤ ticks) (short : ticks ≤ 16384) (all : count ≡ ticks / 8 + 321)
+    (l : LacksIn t n classes round ticks (8 * count) lacks) (b : Blocked lacks count blocks) where
+  block-lacks : (x : ℕ) → x < 8 * count → get_or blocks (x / 8) 0 ≤ get_or lacks x 0
+  block-lacks x h = b.each (x / 8) (omega arith) x (omega arith) (omega arith)
+
+  -- what is lacking some time after s is asked for then
+  lacking-asked : (s d r : ℕ) → s % ticks + d < 8 * count → r ≤ get_or lacks (s % ticks + d) 0 → AskMore (in_class classes round) t n r (s + d)
+  lacking-asked s d r h le =
+      let x = s % ticks + d in
+      let e : s / ticks * ticks + x ≡ s + d = omega (arith, div-add-mod' s ticks) in
+      omega (arith, l.each x h, rw e at (lacks-asked classes round ticks t n ranged (s / ticks) x))
+
+  -- the least of all blocks
+  module _ (low : ℕ) (least : LeastOver blocks 0 count low) where
+    low-lacks : (x : ℕ) → x < 8 * count → low ≤ get_or lacks x 0
+    low-lacks x h = omega (arith, block-lacks x h, least (x / 8) (omega arith) (omega arith))
+
+    low-bound : low ≤ 18014398509481984
+    low-bound = omega (arith, low-lacks 0 (omega arith), l.lacking.most 0 (omega arith))
+
+    low-is-asked : (s : ℕ) → AskMore (in_class classes round) t n low s
+    low-is-asked s =
+        let h : s % ticks < ticks = mod-lt s some in
+        let e : s + 0 ≡ s = omega arith in
+        rw e at (lacking-asked s 0 low (omega arith) (low-lacks (s % ticks + 0) (omega arith)))
+
+  module _ (before one four sixteen after : List ℕ) (w₁ : WindowsIn blocks round ticks 1 before one) (w₂ : WindowsIn blocks round ticks 4 one four)
+      (w₃ : WindowsIn blocks round ticks 16 four sixteen) (w₄ : WindowsIn blocks round ticks 64 sixteen after) where
+    Stands : ℕ → Type 0
+    Stands step = (k : ℕ) → k * (8 * step) < ticks → LeastOver blocks (step * k) (5 * step) (get_or after (place_of round step k) 0)
+
+    stands : (step : ℕ) → IsStep step → Stands step
+    unfolding Stands
+    stands = by-step Stands
+        (λ k h. rw (w₄.others (place_of round 1 k) (inr (omega arith)), w₃.others (place_of round 1 k) (inr (omega arith)), w₂.others (place_of round 1 k) (inr (omega arith))) (w₁.each k h))
+        (λ k h. rw (w₄.others (place_of round 4 k) (inr (omega arith)), w₃.others (place_of round 4 k) (inr (omega arith))) (w₂.each k h))
+        (λ k h. rw (w₄.others (place_of round 16 k) (inr (omega arith))) (w₃.each k h))
+        w₄.each
+
+    -- a window is no more than what is lacking at any time for as long as four steps
+    Under : ℕ → Type 0
+    Under step = (r d : ℕ) → r < ticks → d < 32 * step → get_or after (place_of round step (r / (8 * step))) 0 ≤ get_or lacks (r + d) 0
+
+    under-at : (step : ℕ) → IsStep step → (1 ≤ step) → (step ≤ 64) → ((r d : ℕ) → d < 32 * step → (step * (r / (8 * step)) ≤ (r + d) / 8) × ((r + d) / 8 < step * (r / (8 * step)) + 5 * step)) → Under step
+    unfolding Stands Under
+    under-at step is one most within r d h g =
+        let w = within r d g in
+        let q : r / (8 * step) * (8 * step) < ticks = omega (arith, div-mul-le_self r (8 * step)) in
+        omega (arith, stands step is (r / (8 * step)) q ((r + d) / 8) w.0 w.1, block-lacks (r + d) (omega arith))
+
+    under : (step : ℕ) → IsStep step → Under step
+    under = by-step Under
+        (under-at 1 (inl refl) (omega arith) (omega arith) (λ r d h. (omega arith, omega arith)))
+        (under-at 4 (inr (inl refl)) (omega arith) (omega arith) (λ r d h. (omega arith, omega arith)))
+        (under-at 16 (inr (inr (inl refl))) (omega arith) (omega arith) (λ r d h. (omega arith, omega arith)))
+        (under-at 64 (inr (inr (inr refl))) (omega arith) (omega arith) (λ r d h. (omega arith, omega arith)))
+
+    step-most : (step : ℕ) → IsStep step → (1 ≤ step) × (step ≤ 64)
+    step-most = by-step (λ step. (1 ≤ step) × (step ≤ 64)) (omega arith, omega arith) (omega arith, omega arith) (omega arith, omega arith) (omega arith, omega arith)
+
+    pub tabled : (low : ℕ) → LeastOver blocks 0 count low → Tabled t n classes round ticks low before after
+    unfolding Under
+    tabled low least = record {
+      long = w₄.long;
+      windowed = record {
+        some = some;
+        short = short;
+        most = λ step s is.
+            let m = step-most step is in
+            let h : s % ticks < ticks = mod-lt s some in
+            omega (arith, under step is (s % ticks) 0 h (omega arith), l.lacking.most (s % ticks + 0) (omega arith));
+        asked = λ step s d is g.
+            let m = step-most step is in
+            let h : s % ticks < ticks = mod-lt s some in
+            lacking-asked s d _ (omega arith) (under step is (s % ticks) d h g);
+      };
+      low-most = low-bound low least;
+      low-asked = low-is-asked low least;
+      others = λ i h. w₄.others i (inl (omega arith)) ∙ w₃.others i (inl (omega arith)) ∙ w₂.others i (inl (omega arith)) ∙ w₁.others i (inl (omega arith));
+    }
+
+-- the windows of a round stand where only those of later rounds are made
+pub windowed-stands : {t : ℕ → Term} {n : ℕ} {classes : List ℕ} {round ticks : ℕ} {before after : List ℕ} → ((i : ℕ) → i < 4096 * (round + 1) → get_or after i 0 ≡ get_or before i 0)
+    → Windowed t n classes round ticks before → Windowed t n classes round ticks after
+windowed-stands {round = round} {ticks = ticks} same w = record {
+  some = w.some;
+  short = w.short;
+  most = λ step s is. rw (same (place_of round step (s % ticks / (8 * step))) (within step is s)) (w.most step s is);
+  asked = λ step s d is g. rw (same (place_of round step (s % ticks / (8 * step))) (within step is s)) (w.asked step s d is g);
+}
+  where
+    within : (step : ℕ) → IsStep step → (s : ℕ) → place_of round step (s % ticks / (8 * step)) < 4096 * (round + 1)
+    within = by-step (λ step. (s : ℕ) → place_of round step (s % ticks / (8 * step)) < 4096 * (round + 1))
+        (λ s. omega (arith, mod-lt s w.some, w.short))
+        (λ s. omega (arith, mod-lt s w.some, w.short))
+        (λ s. omega (arith, mod-lt s w.some, w.short))
+        (λ s. omega (arith, mod-lt s w.some, w.short))

@@ -1,5 +1,7 @@
 // Rounds: stretches of time after which the releases of some terms come again as they were. specs/Rounds.antt says what is known of a round, and specs/Classes.antt
 // which terms are in which.
+#![tactic(auto)]
+
 ghost use Rattle.std.specs.Prelude.{◌≡◌, ◌&&◌, ℕ, ◌+◌, ◌-◌, ◌*◌, ◌%◌, ◌≤◌, ◌<◌, eqb, length};
 ghost use Rattle.demand.specs.Demand.{ceil};
 ghost use Rattle.demand.specs.Terms.{term_in, Handed};
@@ -24,7 +26,7 @@ const BLOCKS: usize = 2369;
 
 // What is known of some rounds beside their windows: the class of each term, the ticks of each of the `made` rounds, what the terms that are taken leave free of
 // the processor, and what they ask for beyond their shares at any time.
-#[derive(Drop)]
+#[derive(Clone, Copy)]
 pub struct Rounds {
     pub classes: [usize; 32],
     pub ticks: [u64; 8],

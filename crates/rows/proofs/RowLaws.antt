@@ -64,7 +64,7 @@ module _ {board : List ℕ} {n : ℕ} (lent : Lent board n) (a : Access) (i : �
       let few = lent-few lent in
       get_or-take 32 (drop (m * 32) ws) j 0 (omega arith) ∙ get_or-drop (m * 32) ws j 0 ∙ weighed.each m j h l
 
-  pub row-handed : Handed (own_under board a i) board (weights_under ws m) i (limit_on board i)
+  row-handed : Handed (own_under board a i) board (weights_under ws m) i (limit_on board i)
   row-handed =
       let few = lent-few lent in
       let long = weighed.long in
@@ -76,16 +76,16 @@ module _ {board : List ℕ} {n : ℕ} (lent : Lent board n) (a : Access) (i : �
   row-answer : least_of (demand_of (own_under board a i) (term_in board (weights_under ws m)) i) (limit_on board i) ≡ least_on_under board a m i (limit_on board i)
   row-answer = ap (λ (f : ℕ → ℕ). least_of f (limit_on board i)) (demand-same (own_under board a i) _ _ i same-term)
 
-  pub started-row : {counts ends : List ℕ} → Started (own_under board a i) (term_in board (weights_under ws m)) i counts ends
+  started-row : {counts ends : List ℕ} → Started (own_under board a i) (term_in board (weights_under ws m)) i counts ends
       → Started (own_under board a i) (term_on_under board a m i) i counts ends
   started-row = started-same _ i _ _ _ _ same-term
 
-  pub row-started : {counts ends : List ℕ} → Started (own_under board a i) (term_on_under board a m i) i counts ends
+  row-started : {counts ends : List ℕ} → Started (own_under board a i) (term_on_under board a m i) i counts ends
       → Started (own_under board a i) (term_in board (weights_under ws m)) i counts ends
   row-started = started-same _ i _ _ _ _ (λ j l. sym (same-term j l))
 
   -- what such a search answers
-  pub row-searched : {wanted r : ℕ} → Searched wanted (least_of (demand_of (own_under board a i) (term_in board (weights_under ws m)) i) (limit_on board i)) r
+  row-searched : {wanted r : ℕ} → Searched wanted (least_of (demand_of (own_under board a i) (term_in board (weights_under ws m)) i) (limit_on board i)) r
       → Searched wanted (least_on_under board a m i (limit_on board i)) r
   row-searched p = record { unwanted = p.unwanted; answer = λ w. p.answer w ∙ row-answer }
 
@@ -113,18 +113,18 @@ module _ {board : List ℕ} {n : ℕ} (lent : Lent board n) (a : Access) (i : �
   none_after known e z = none_from _ _ i _ _ (on-ranged lent a (cheaper m) i here) no_more (ap told_of (sym z) ∙ e)
 
   -- a search that is left out where the cheaper method has no answer finds what is wanted, if that method was wanted, too
-  pub after-known : (wanted-known known wanted given r : ℕ) → (1 ≤ wanted-known → told_of known ≡ least_on_under board a (cheaper m) i (limit_on board i))
+  after-known : (wanted-known known wanted given r : ℕ) → (1 ≤ wanted-known → told_of known ≡ least_on_under board a (cheaper m) i (limit_on board i))
       → (wanted-known ≡ 0 → wanted ≡ 0) → (known ≡ 0 → given ≡ 0) × (1 ≤ known → given ≡ wanted)
       → Searched given (least_on_under board a m i (limit_on board i)) r → 1 ≤ wanted → told_of r ≡ least_on_under board a m i (limit_on board i)
   after-known zero known wanted given r k f g p w = absurd (omega (arith, f refl))
   after-known (suc x) zero wanted given r k f g p w = ap told_of (p.unwanted (g.0 refl)) ∙ none_after 0 (k (omega arith)) refl
   after-known (suc x) (suc y) wanted given r k f g p w = p.answer (omega (arith, g.1 (omega arith)))
 
-  pub started-after : {counts ends : List ℕ} → Started (own_under board a i) (term_on_under board a (cheaper m) i) i counts ends
+  started-after : {counts ends : List ℕ} → Started (own_under board a i) (term_on_under board a (cheaper m) i) i counts ends
       → Started (own_under board a i) (term_on_under board a m i) i counts ends
   started-after = started-harder _ _ i _ _ _ _ (on-ranged lent a (cheaper m) i here) no_more (λ j l. (refl, refl)) (omega arith)
 
--- ---- on from the task above, and from the row without an access
+-- ---- on from the task above
 
 -- without reloads a task asks for its work
 plain-term : (board : List ℕ) (a : Access) (i j : ℕ) → plain_on board j ≡ term_on_under board a 0 i j
@@ -132,11 +132,69 @@ unfolding reloads_with
 plain-term board a i j = ap (term_of (period_in board j) (jitter_in board j)) (omega arith)
 
 module _ (board : List ℕ) (a : Access) (own i : ℕ) {counts ends : List ℕ} where
-  pub plain-started : Started own (plain_on board) i counts ends → Started own (term_on_under board a 0 i) i counts ends
+  plain-started : Started own (plain_on board) i counts ends → Started own (term_on_under board a 0 i) i counts ends
   plain-started = started-same _ i _ _ _ _ (λ j l. plain-term board a i j)
 
-  pub started-plain : Started own (term_on_under board a 0 i) i counts ends → Started own (plain_on board) i counts ends
+  started-plain : Started own (term_on_under board a 0 i) i counts ends → Started own (plain_on board) i counts ends
   started-plain = started-same _ i _ _ _ _ (λ j l. sym (plain-term board a i j))
+
+-- ---- the searches for one row
+
+-- whether an answer is still wanted where another one is known
+abbrev Unless : ℕ → ℕ → ℕ → Type 0
+Unless known wanted given = (known ≡ 0 → given ≡ 0) × (1 ≤ known → given ≡ wanted)
+
+module _ {board : List ℕ} {n : ℕ} (lent : Lent board n) (a : Access) (i : ℕ) (here : i < n) (blocks : Blocks i a) {ws : List ℕ} (weighed : WeighedUnder board a i ws) where
+  abbrev HandedTo : ℕ → List ℕ → List ℕ → Type 0
+  HandedTo m counts ends =
+      Handed (own_under board a i) board (weights_under ws m) i (limit_on board i) × Started (own_under board a i) (term_in board (weights_under ws m)) i counts ends
+
+  -- the one without reloads goes on from the row above, and each other one from a cheaper one
+  pub search-first : {counts ends : List ℕ} → Started (own_under board a i) (plain_on board) i counts ends → HandedTo 0 counts ends
+  search-first p =
+      (row-handed lent a i here blocks weighed 0 (omega arith), row-started lent a i here blocks weighed 0 (omega arith) (plain-started board a _ i p))
+
+  pub search-next : (m : ℕ) → m ≤ 4 → cheaper m ≤ 4 → {counts ends : List ℕ} → Started (own_under board a i) (term_in board (weights_under ws (cheaper m))) i counts ends
+      → HandedTo m counts ends
+  search-next m h k p = (
+    row-handed lent a i here blocks weighed m h,
+    row-started lent a i here blocks weighed m h (started-after lent a i here m h (started-row lent a i here blocks weighed (cheaper m) k p)),
+  )
+
+  -- what the first leaves
+  pub search-left : {counts ends : List ℕ} → Started (own_under board a i) (term_in board (weights_under ws 0)) i counts ends → Started (own_under board a i) (plain_on board) i counts ends
+  search-left p = started-plain board a _ i (started-row lent a i here blocks weighed 0 (omega arith) p)
+
+  -- what they answer
+  abbrev FoundBy : ℕ → ℕ → ℕ → Type 0
+  FoundBy m wanted r = Searched wanted (least_of (demand_of (own_under board a i) (term_in board (weights_under ws m)) i) (limit_on board i)) r
+
+  pub tell-wanted : (w : Singles) (b c d e : ℕ) (s : Singles) → Falls w → FoundBy 0 w.none s.none → Unless s.none w.ucb_union b → FoundBy 3 b s.ucb_union
+      → Unless s.ucb_union w.ecb_only c → FoundBy 1 c s.ecb_only → Unless s.none w.ecb_union d → FoundBy 4 d s.ecb_union → Unless s.ecb_union w.ucb_only e
+      → FoundBy 2 e s.ucb_only → TellWanted board a i w s
+  tell-wanted w b c d e s falls f0 u3 f3 u1 f1 u4 f4 u2 f2 =
+      let none = row-searched lent a i here blocks weighed 0 (omega arith) f0 in
+      let ecb-only = row-searched lent a i here blocks weighed 1 (omega arith) f1 in
+      let ucb-only = row-searched lent a i here blocks weighed 2 (omega arith) f2 in
+      let ucb-union = row-searched lent a i here blocks weighed 3 (omega arith) f3 in
+      let ecb-union = row-searched lent a i here blocks weighed 4 (omega arith) f4 in
+      let of-ucbs = after-known lent a i here 3 (omega arith) w.none s.none w.ucb_union b s.ucb_union none.answer falls.ucb-union u3 ucb-union in
+      let of-ecbs = after-known lent a i here 4 (omega arith) w.none s.none w.ecb_union d s.ecb_union none.answer falls.ecb-union u4 ecb-union in
+      record {
+        falls = record {
+          ucb-union = λ z. ucb-union.unwanted (u3.0 z);
+          ecb-only = λ z. ecb-only.unwanted (u1.0 z);
+          ecb-union = λ z. ecb-union.unwanted (u4.0 z);
+          ucb-only = λ z. ucb-only.unwanted (u2.0 z);
+        };
+        none = none.answer;
+        ecb-only = after-known lent a i here 1 (omega arith) w.ucb_union s.ucb_union w.ecb_only c s.ecb_only of-ucbs falls.ecb-only u1 ecb-only;
+        ucb-only = after-known lent a i here 2 (omega arith) w.ecb_union s.ecb_union w.ucb_only e s.ucb_only of-ecbs falls.ucb-only u2 ucb-only;
+        ucb-union = of-ucbs;
+        ecb-union = of-ecbs;
+      }
+
+-- ---- on from the row without an access
 
 -- the list of the tasks' work, which stands on the board
 abbrev works_on : List ℕ → List ℕ
@@ -189,13 +247,13 @@ module _ {board : List ℕ} {n : ℕ} (lent : Lent board n) (i : ℕ) (here : i 
 
 -- ---- a row of six answers
 
-pub cells_are : (A : ℕ → Response) (a b c d e : Response) → a ≡ A 0 → b ≡ A 1 → c ≡ A 2 → d ≡ A 3 → e ≡ A 4
+cells_are : (A : ℕ → Response) (a b c d e : Response) → a ≡ A 0 → b ≡ A 1 → c ≡ A 2 → d ≡ A 3 → e ≡ A 4
     → (cell a ∷ cell b ∷ cell c ∷ cell d ∷ cell e ∷ cell (sooner d e) ∷ []) ≡ map (λ m. cell (with_combined A m)) methods
 cells_are A a b c d e p q r s t = cc
 
 -- ---- over the accesses that may block, one after the other
 
-pub tell-as : {A B : ℕ → Response} {s : Singles} → ((m : ℕ) → A m ≡ B m) → Tell A s → Tell B s
+tell-as : {A B : ℕ → Response} {s : Singles} → ((m : ℕ) → A m ≡ B m) → Tell A s → Tell B s
 tell-as e p = record {
   none = p.none ∙ e 0;
   ecb-only = p.ecb-only ∙ e 1;
@@ -216,14 +274,6 @@ later-wanted (suc l) n L A e f = ap₂ later e (f (omega arith))
 -- all of them are wanted
 abbrev pub all_wanted : Singles
 all_wanted = record { none = 1; ecb_only = 1; ucb_only = 1; ucb_union = 1; ecb_union = 1 }
-
-pub all-falls : Falls all_wanted
-all-falls = record {
-  ucb-union = λ z. absurd (omega arith);
-  ecb-only = λ z. absurd (omega arith);
-  ecb-union = λ z. absurd (omega arith);
-  ucb-only = λ z. absurd (omega arith);
-}
 
 pub tell-all : {board : List ℕ} {a : Access} {i : ℕ} {s : Singles} → TellWanted board a i all_wanted s → TellUnder board a i s
 tell-all p = record {
@@ -311,7 +361,7 @@ module _ {board : List ℕ} {n : ℕ} (lent : Lent board n) (i : ℕ) (here : i 
           no_less = omega (arith, p.unblocked (omega arith) i here);
         }
 
-    pub all-block-on : (b : Blockers) → Listed (blockers_on board (take count accesses) i) b → AllBlockOn board i b
+    all-block-on : (b : Blockers) → Listed (blockers_on board (take count accesses) i) b → AllBlockOn board i b
     all-block-on b l = record {
       some = l.some;
       few = l.few;

@@ -1,4 +1,6 @@
 // The responses of all tasks of a table under all methods. What one task's search finds out is carried on to the next.
+#![tactic(auto)]
+
 ghost use Rattle.std.specs.Prelude.{◌≡◌, ◌+◌, ◌≤◌, take};
 ghost use Rattle.demand.specs.Positions.{front};
 ghost use Rattle.demand.specs.Demand.{demand_of};
@@ -19,7 +21,7 @@ use table::Table;
 use units::Ticks;
 
 // The answers for one task in ticks under the methods 0 to 4; 0 for none.
-#[derive(Drop)]
+#[derive(Clone, Copy)]
 struct Singles {
     none: u64,
     ecb_only: u64,
@@ -29,7 +31,7 @@ struct Singles {
 }
 
 // Counts of activations and their ends, to start from.
-#[derive(Drop)]
+#[derive(Clone, Copy)]
 struct Start {
     counts: [u64; 32],
     ends: [u64; 32],

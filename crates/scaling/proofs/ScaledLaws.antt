@@ -1,6 +1,6 @@
 -- The tasks of a scaled table, one place at a time and all at once; that a table that is scaled by more is harder; and up to which factor a C is scaled to no
 -- more than the longest. Assumes nothing.
-use Prim.Native.Nat.{ℕ, zero, suc, ◌+◌, ◌*◌, ◌/◌, ◌≤◌, ◌<◌}
+use Prim.Native.Nat.{ℕ, suc, ◌+◌, ◌*◌, ◌/◌, ◌≤◌, ◌<◌}
 use native.Mathlib.Nat.{mul_comm, mul-le-mul, mul-le-mul_left, le-div_iff_mul-le, lt_of_not-le, zero-mul}
 use native.Mathlib.Numerals.{add-one}
 use native.Mathlib.Omega.{arith}

@@ -1,4 +1,6 @@
 // Tables whose execution times are scaled. specs/Scaling.antt says what becomes of a C.
+#![tactic(auto)]
+
 ghost use Rattle.std.specs.Prelude.{◌≡◌, ◌≤◌};
 ghost use Rattle.scaling.specs.Scaling.{scaled_work, scaled_by, Scalable};
 

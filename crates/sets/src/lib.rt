@@ -1,5 +1,7 @@
 // Sets of cache sets, as bits of four words. specs/Sets.antt says what a set, a union and a size are,
 // specs/Words.antt which set the words stand for, and specs/Field.antt what a text field says.
+#![tactic(auto)]
+
 ghost use Rattle.std.specs.Prelude.{◌≡◌, true, ◌+◌, ◌*◌, ◌<◌, ◌≤◌, length};
 ghost use Rattle.std.specs.Int.Count.{ones};
 ghost use Rattle.sets.specs.Sets.{◌∪◌, ◌∩◌, size};
@@ -11,7 +13,7 @@ use hex_digits::Words;
 use units::Reloads;
 
 // A set of cache sets: cache set s is bit s % 64 of word s / 64.
-#[derive(Drop)]
+#[derive(Clone, Copy)]
 pub struct CacheSet {
     w0: u64,
     w1: u64,
@@ -20,7 +22,7 @@ pub struct CacheSet {
 }
 
 // What reading a text field answers.
-#[derive(Drop)]
+#[derive(Clone, Copy)]
 pub enum SetField {
     Marks(CacheSet),
     Bad,
@@ -85,6 +87,7 @@ impl CacheSet {
     }
 
     // The set at position `k` of a list of words, four for each position.
+    #[tactic(auto, unfolding(crate::specs::Stored::held_at))]
     pub fn at(words: &[u64], k: usize) -> CacheSet
         requires { 4 * k + 4 ≤ length words.now }
         ensures { result ≡ held_at words.now k }
@@ -99,6 +102,7 @@ impl CacheSet {
     }
 
     // Puts the set at position `k` of a list of words.
+    #[tactic(auto, unfolding(crate::specs::Stored::stored_at))]
     pub fn store(self, words: &mut [u64], k: usize)
         requires { 4 * k + 4 ≤ length words.old }
         ensures { words.new ≡ stored_at words.old k self }

@@ -2,20 +2,16 @@
 use Prim.Native.Nat.{ℕ, zero, suc, ◌+◌, ◌*◌, ◌≤◌, ◌<◌, zero-le}
 use native.Mathlib.Nat.{div-mul-le_self, eq-or-lt_of_le, mul-le-mul_left, mul-le-mul_right}
 use native.Mathlib.Numerals.{add-one}
-use native.Mathlib.Decide.{dec_le}
 use native.Mathlib.Omega.{arith}
 use mathlib.Core.Path.{◌≡◌, refl, sym, ap}
-use mathlib.Core.Bool.{Bool, true, false, cond}
 use mathlib.Core.Logic.{◌⊎◌, inl, inr}
-use lib.Dec.{leb}
-use borrow.Author.Tests.{le-leb, lt-leb}
 use Rattle.demand.specs.declared.Response.TheVariants.{Unschedulable}
 use Rattle.demand.specs.Demand.{Term, ceil, work_of, demand_of}
 use Rattle.demand.specs.Terms.{InRange}
 use Rattle.demand.specs.Least.{least_of}
 use Rattle.demand.proofs.PositionLaws.{fold-none, fold_next}
 use Rattle.demand.proofs.LeastLaws.{no-solution}
-use Rattle.demand.proofs.DemandLaws.{ceil-mul, sum-le, demand-none, demand-next}
+use Rattle.demand.proofs.DemandLaws.{ceil-mul, demand-none, demand-next}
 use Rattle.shares.specs.Shares.{share_of, shares_of}
 
 -- ---- one term

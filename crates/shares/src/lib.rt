@@ -1,4 +1,6 @@
 // Shares of the processor. specs/Shares.antt says what a share is.
+#![tactic(auto)]
+
 ghost use Rattle.std.specs.Prelude.{◌≡◌, ◌-◌};
 ghost use Rattle.demand.specs.Demand.{term_of};
 ghost use Rattle.demand.specs.Terms.{term_in, InRange, Handed};

@@ -26,9 +26,9 @@ marks-below sets f Bad by-four e h = absurd (false≢true h)
 
 -- the task of such a line may be taken, and its name is filled up with zeros
 module _ (sets : ℕ) (line : List ℕ) (count : ℕ) (names : List Name) (by-four : sets % 4 ≡ 0) (h : TaskHolds count names (task_said sets line)) where
-  is_name : is_name (field 1 line) ≡ true
+  named : is_name (field 1 line) ≡ true
   unfolding task_said times_said fields_said
-  is_name = h.named
+  named = h.named
 
   marks : (is_marks (read_set sets (field 7 line)) ≡ true) × (is_marks (read_set sets (field 8 line)) ≡ true)
   unfolding task_said times_said fields_said
@@ -40,7 +40,7 @@ module _ (sets : ℕ) (line : List ℕ) (count : ℕ) (names : List Name) (by-fo
       let r = ranges (task_said sets line).task h.in-range in
       let o = order (task_said sets line).task h.in_order in
       record {
-        name = rw (name-kept (field 1 line) is_name) is_name;
+        name = rw (name-kept (field 1 line) named) named;
         work = r.work;
         period = r.period;
         deadline = (r.deadline.0, o.1);
@@ -52,7 +52,7 @@ module _ (sets : ℕ) (line : List ℕ) (count : ℕ) (names : List Name) (by-fo
 
   pub name-filled : (task_said sets line).task.name ≡ pack_name (name_text (task_said sets line).task.name)
   unfolding task_said times_said fields_said
-  name-filled = rw (name-kept (field 1 line) is_name)
+  name-filled = rw (name-kept (field 1 line) named)
 
 -- the access of such a line may be taken
 pub access-accepted : (sets : ℕ) (names : List Name) (line : List ℕ) (above count : ℕ) → sets % 4 ≡ 0 → AccessHolds above count (access_said sets names line)

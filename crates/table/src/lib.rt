@@ -1,5 +1,7 @@
 // Tables of tasks and accesses, and the reader of a table text: the accepted table, or the number and line of the first refusal.
 // specs/Reading.antt says what a whole text is, line after line.
+#![tactic(auto)]
+
 ghost use Rattle.std.specs.Prelude.{◌≡◌, ◌<◌, ◌≤◌, length};
 ghost use Rattle.text.specs.Cut.{lines};
 ghost use Rattle.table.specs.Tasks.{new_table};
@@ -12,7 +14,7 @@ use tasks::{Name, Task};
 use units::Ticks;
 
 // A table: its first `count` tasks, the highest priority first, and its first `access_count` accesses.
-#[derive(Drop)]
+#[derive(Clone, Copy)]
 pub struct Table {
     pub sets: u64,
     pub brt: Ticks,
@@ -23,20 +25,20 @@ pub struct Table {
 }
 
 // A refusal's number, and the line that it tells.
-#[derive(Drop)]
+#[derive(Clone, Copy)]
 pub struct Refusal {
     pub number: u64,
     pub line: u64,
 }
 
-#[derive(Drop)]
+#[derive(Clone, Copy)]
 pub enum Ruling {
     Accepted,
     Refused(Refusal),
 }
 
 // The table stands beside the ruling, since an enum holds no array. Beside a refusal it is empty.
-#[derive(Drop)]
+#[derive(Clone, Copy)]
 pub struct Outcome {
     pub ruling: Ruling,
     pub table: Table,

@@ -1,4 +1,6 @@
 // The text of a table. specs/TableText.antt has it line by line.
+#![tactic(auto)]
+
 ghost use Rattle.std.specs.Prelude.{◌+◌, ◌≤◌, length};
 ghost use mathlib.Core.List.{flat_map};
 ghost use Rattle.table.specs.Tasks.{tasks_of, accesses_of};

@@ -1,5 +1,7 @@
 // Tasks, and what a line says: line 1, and a task line.
 // specs/Said.antt says it field by field.
+#![tactic(auto)]
+
 ghost use Rattle.std.specs.Prelude.{◌≡◌};
 ghost use Rattle.tasks.specs.Tasks.{pack_name};
 ghost use Rattle.tasks.specs.Said.{head_said, is_marks, marks_of, times_said, fields_said, task_said};
@@ -8,13 +10,13 @@ use sets::{CacheSet, SetField};
 use units::Ticks;
 
 // A name of 1 to 12 bytes, filled up with zeros.
-#[derive(Drop)]
+#[derive(Clone, Copy)]
 pub struct Name {
     pub bytes: [u8; 12],
 }
 
 // A task: its name, C, T, D, J, B, UCB and ECB.
-#[derive(Drop)]
+#[derive(Clone, Copy)]
 pub struct Task {
     pub name: Name,
     pub work: Ticks,
@@ -27,7 +29,7 @@ pub struct Task {
 }
 
 // What line 1 says: whether it has its shape, whether its numbers can be read, and the numbers.
-#[derive(Drop)]
+#[derive(Clone, Copy)]
 pub struct HeadLine {
     pub shaped: bool,
     pub numbered: bool,
@@ -36,7 +38,7 @@ pub struct HeadLine {
 }
 
 // What a task line says: whether it has its shape, whether its name, its numbers and its sets can be read, and the task.
-#[derive(Drop)]
+#[derive(Clone, Copy)]
 pub struct TaskLine {
     pub shaped: bool,
     pub named: bool,
@@ -102,7 +104,7 @@ pub fn marks_of(f: SetField) -> CacheSet
 }
 
 // What the numbers of a task line say: whether all of them can be read, and C, T, D, J and B.
-#[derive(Drop)]
+#[derive(Clone, Copy)]
 struct Times {
     numbered: bool,
     work: Ticks,

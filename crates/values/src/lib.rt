@@ -1,9 +1,11 @@
 // Tables written for tests in other languages: every value that a table can be comes as a list of numbers. specs/Values.antt says which they are.
+#![tactic(auto)]
+
 ghost use Rattle.std.specs.Prelude.{◌≡◌, ◌≤◌, length};
 ghost use Rattle.values.specs.Values.{task_from, access_from, table_from, ValueCoded};
 
 use accesses::Access;
-use crpd::exported::written_code;
+use crpd::codes::written_code;
 use sets::CacheSet;
 use table::Table;
 use tasks::{Name, Task};

@@ -1,95 +1,73 @@
 // Texts, each read, and what the reader answers: a refusal's number and line; or of a table that is accepted its cache sets, its
 // block reload time, how many tasks it has, and of the first its name, C, T, D, J, B and the sizes of UCB and ECB; and where it has accesses,
 // how many, and of the first the positions of its task and its ceiling, its length and the size of its UCB.
+#![tactic(auto)]
+
 ghost use Rattle.std.specs.Prelude.{◌+◌, ◌≤◌, length};
 
 use accesses::Access;
-use libc::STDOUT_FILENO;
+use std::io::{self, Print};
 use table::{Refusal, Ruling, Table};
 use tasks::{Name, Task};
 
-fn say(bytes: &[u8]) {
-    io::write_all(STDOUT_FILENO, bytes);
+fn say_refusal(out: &impl Print, refusal: Refusal) -> io::Result<()> {
+    print!(out; " refused {} {}", refusal.number, refusal.line)
 }
 
-fn say_number(n: u64) {
-    say(b" ");
-    io::print_decimal(STDOUT_FILENO, n);
-}
-
-fn say_refusal(refusal: Refusal) {
-    say(b" refused");
-    say_number(refusal.number);
-    say_number(refusal.line);
-}
-
-fn say_name(name: Name) {
+fn say_name(out: &impl Print, name: Name) -> io::Result<()> {
     let bytes = name.bytes;
-    say(b" ");
-    say(text::before(&bytes, 0));
+    out.write_all(b" ")?;
+    out.write_all(text::before(&bytes, 0))
 }
 
-fn say_task(t: Task) {
-    let name = t.name;
-    let ucb = t.ucb;
-    let ecb = t.ecb;
-    say_name(name);
-    say_number(t.work.0);
-    say_number(t.period.0);
-    say_number(t.deadline.0);
-    say_number(t.jitter.0);
-    say_number(t.blocking.0);
-    say_number(ucb.size().0);
-    say_number(ecb.size().0);
+fn say_task(out: &impl Print, t: Task) -> io::Result<()> {
+    say_name(out, t.name)?;
+    let (ucb, ecb) = (t.ucb.size(), t.ecb.size());
+    print!(out;
+        " {} {} {} {}",
+        t.work.0, t.period.0, t.deadline.0, t.jitter.0
+    )?;
+    print!(out; " {} {} {}", t.blocking.0, ucb.0, ecb.0)
 }
 
-fn say_access(a: Access) {
-    let ucb = a.ucb;
-    say_number(a.task as u64);
-    say_number(a.ceiling as u64);
-    say_number(a.lasts.0);
-    say_number(ucb.size().0);
+fn say_access(out: &impl Print, a: Access) -> io::Result<()> {
+    let ucb = a.ucb.size();
+    print!(out; " {} {} {} {}", a.task, a.ceiling, a.lasts.0, ucb.0)
 }
 
-fn say_table(table: Table) {
-    let first = table.tasks[0];
-    say(b" accepted");
-    say_number(table.sets);
-    say_number(table.brt.0);
-    say_number(table.count as u64);
-    say_task(first);
+fn say_table(out: &impl Print, table: Table) -> io::Result<()> {
+    print!(out; " accepted {} {} {}", table.sets, table.brt.0, table.count)?;
+    say_task(out, table.tasks[0])?;
     if 0 < table.access_count {
-        say_number(table.access_count as u64);
-        let access = table.accesses[0];
-        say_access(access);
+        print!(out; " {}", table.access_count)?;
+        say_access(out, table.accesses[0])?;
     }
+    Ok(())
 }
 
-fn say_answer(input: &[u8]) {
-    let out = table::read(input);
-    let ruling = out.ruling;
-    let table = out.table;
-    match ruling {
-        Ruling::Accepted => say_table(table),
-        Ruling::Refused(refusal) => say_refusal(refusal),
+fn say_answer(out: &impl Print, input: &[u8]) -> io::Result<()> {
+    let outcome = table::read(input);
+    match outcome.ruling {
+        Ruling::Accepted => say_table(out, outcome.table),
+        Ruling::Refused(refusal) => say_refusal(out, refusal),
     }
 }
 
 // What a text is, and what the reader answers. The text is `tail` after `head`.
-fn show(what: &[u8], head: &[u8], tail: &[u8])
+fn show(out: &impl Print, what: &[u8], head: &[u8], tail: &[u8]) -> io::Result<()>
     requires { length head.now + length tail.now ≤ 20000 }
 {
-    say(what);
-    say(b":");
+    out.write_all(what)?;
+    out.write_all(b":")?;
     let mut input = [0u8; 20000];
     let middle = writer::put_bytes(&mut input, 0, head);
     let end = writer::put_bytes(&mut input, middle, tail);
-    say_answer(&input[..end]);
-    say(b"\n");
+    say_answer(out, &input[..end])?;
+    out.write_all(b"\n")
 }
 
 // Shows texts that start with `head`. Of each the list has what it is, '|', what stands after `head`, and ';'.
-fn show_all(head: &[u8], list: &[u8])
+fn show_all(out: &impl Print, head: &[u8], list: &[u8]) -> io::Result<()>
     requires { length head.now + length list.now ≤ 20000 }
 {
     let mut rest = list;
@@ -97,15 +75,18 @@ fn show_all(head: &[u8], list: &[u8])
         let entry = text::before(rest, b';');
         let what = text::before(entry, b'|');
         let tail = text::past(entry, b'|', what);
-        show(what, head, tail);
+        show(out, what, head, tail)?;
         let next = text::past(rest, b';', entry);
         rest = next;
     }
+    Ok(())
 }
 
-fn main() {
+fn main(rt: HostRuntime) -> io::Result<()> {
+    let out = rt.stdout();
     // Tables that are accepted, and texts that are refused as a whole.
     show_all(
+        &out,
         b"",
         b"three tasks|K\t4\t1\nT\ta\t1\t20\t20\t0\t0\t0\tf\nT\tb\t2\t40\t40\t0\t0\t3\tf\nT\tc\t2\t60\t60\t0\t0\tc\tf\n;\
           the largest numbers, J = D = T, a name of 12 bytes|K\t256\t100000\nT\tabcdefgh-012\t250000000\t250000000\t250000000\t250000000\t250000000\t0123456789abcdef0123456789abcdef0123456789abcdef0123456789abcdef\tffffffffffffffffffffffffffffffffffffffffffffffffffffffffffffffff\n;\
@@ -117,17 +98,19 @@ fn main() {
           no LF|K\t4\t1;\
           no LF at the end|K\t4\t1\nT\ta\t1\t20\t20\t0\t0\t0\tf;\
           no task line|K\t4\t1\n;",
-    );
+    )?;
     // Texts that are as long as may be, or longer by a byte.
     show_all(
+        &out,
         &[b'a'; 16383],
         b"16,384 bytes without LF|a;\
           16,385 bytes without LF|aa;\
           16,385 bytes|a\n;\
           16,384 bytes|\n;",
-    );
+    )?;
     // Line 1, and then a task line: its shape, name, numbers, sets and order.
     show_all(
+        &out,
         b"",
         b"an empty line 1|\n;\
           a T on line 1|T\t4\t1\n;\
@@ -189,9 +172,10 @@ fn main() {
           8 before 9|K\t4\t1\nT\ta\t1\t20\t20\t0\t0\t0\tf\nT\ta\t1\t20\t21\t0\t0\t0\tf\n;\
           a name again|K\t4\t1\nT\ta\t1\t20\t20\t0\t0\t0\tf\nT\tb\t1\t20\t20\t0\t0\t0\tf\nT\ta\t1\t20\t20\t0\t0\t0\tf\n;\
           line 2 before line 3|K\t4\t1\nT\ta\t1\t20\t21\t0\t0\t0\tf\nU\n;",
-    );
+    )?;
     // 31 task lines, with the names a0 to z0 and a1 to e1, and what stands below them.
     show_all(
+        &out,
         b"K\t4\t1\n\
           T\ta0\t1\t20\t20\t0\t0\t0\tf\nT\tb0\t1\t20\t20\t0\t0\t0\tf\nT\tc0\t1\t20\t20\t0\t0\t0\tf\n\
           T\td0\t1\t20\t20\t0\t0\t0\tf\nT\te0\t1\t20\t20\t0\t0\t0\tf\nT\tf0\t1\t20\t20\t0\t0\t0\tf\n\
@@ -214,9 +198,10 @@ fn main() {
           32 tasks, an access, a bad task line|T\tf1\t1\t20\t20\t0\t0\t0\tf\nA\tc0\ta0\t5\t3\nT\n;\
           32 tasks and another line|T\tf1\t1\t20\t20\t0\t0\t0\tf\nU\n;\
           32 tasks and an access|T\tf1\t1\t20\t20\t0\t0\t0\tf\nA\tf1\ta0\t5\t3\n;",
-    );
+    )?;
     // Three tasks, and what stands below them: an access line, its shape, names, length, set and order.
     show_all(
+        &out,
         b"K\t4\t1\nT\ta\t1\t20\t20\t0\t0\t0\tf\nT\tb\t1\t20\t20\t0\t0\t0\tf\nT\tc\t1\t20\t20\t0\t0\t0\tf\n",
         b"an access|A\tc\ta\t5\t3\n;\
           its own ceiling|A\tc\tc\t1\t0\n;\
@@ -247,16 +232,18 @@ fn main() {
           a ceiling below the task|A\ta\tc\t5\t3\n;\
           a ceiling one below|A\tb\tc\t5\t3\n;\
           a line before the next|A\tc\ta\t5\t3\nA\ta\tc\t5\t3\nA\n;",
-    );
+    )?;
     show_all(
+        &out,
         b"K\t4\t1\n",
         b"B beside an access|T\ta\t1\t20\t20\t0\t0\t0\tf\nT\tb\t1\t20\t20\t0\t1\t0\tf\nT\tc\t1\t20\t20\t0\t2\t0\tf\nA\tc\ta\t5\t3\n;\
           15 before 17|T\ta\t1\t20\t20\t0\t1\t0\tf\nA\ta\tb\t5\t3\n;\
           an access and no task|A\tc\ta\t5\t3\n;\
           an access before the tasks|A\tc\ta\t5\t3\nT\ta\t1\t20\t20\t0\t0\t0\tf\n;",
-    );
+    )?;
     // A task and 31 accesses, and what stands below them.
     show_all(
+        &out,
         b"K\t4\t1\nT\ta\t1\t20\t20\t0\t0\t0\tf\n\
           A\ta\ta\t1\t0\nA\ta\ta\t1\t0\nA\ta\ta\t1\t0\nA\ta\ta\t1\t0\nA\ta\ta\t1\t0\nA\ta\ta\t1\t0\nA\ta\ta\t1\t0\nA\ta\ta\t1\t0\n\
           A\ta\ta\t1\t0\nA\ta\ta\t1\t0\nA\ta\ta\t1\t0\nA\ta\ta\t1\t0\nA\ta\ta\t1\t0\nA\ta\ta\t1\t0\nA\ta\ta\t1\t0\nA\ta\ta\t1\t0\n\
@@ -267,5 +254,5 @@ fn main() {
           16 before 3|A\ta\ta\t1\t0\nA\n;\
           32 accesses and a task|A\ta\ta\t1\t0\nT\tb\t1\t20\t20\t0\t0\t0\tf\n;\
           32 accesses and another line|A\ta\ta\t1\t0\nU\n;",
-    );
+    )
 }

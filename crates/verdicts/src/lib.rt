@@ -1,4 +1,6 @@
 // The verdicts of the methods, and the line that tells them.
+#![tactic(auto)]
+
 ghost use Rattle.std.specs.Prelude.{◌≡◌, false, ◌&&◌, ◌+◌, ◌≤◌, length, get_or};
 ghost use mathlib.Core.List.{map, flat_map};
 ghost use Rattle.demand.specs.Positions.{methods};
@@ -11,7 +13,7 @@ use demand::{Response, Row};
 use writer::{put_byte, put_field};
 
 // Whether every task that was looked at has a response, for each method.
-#[derive(Drop)]
+#[derive(Clone, Copy)]
 struct Verdicts {
     yes: [bool; 6],
 }

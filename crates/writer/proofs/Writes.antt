@@ -6,7 +6,7 @@ use native.Mathlib.Nat.{add_assoc}
 use native.Mathlib.Numerals.{add-one}
 use native.Mathlib.Omega.{arith}
 use lib.ListN.{length, take, set, get_or, length-append, length-take}
-use lib.Seq.{take-suc-set, drop-set-lt, take-suc, take_all, drop-drop}
+use lib.Seq.{take-suc-set, drop-set-lt, take-suc, drop-drop}
 use Rattle.writer.specs.Wrote.{Wrote}
 
 pub one_byte : (d : List ℕ) (at b : ℕ) → at < length d → Wrote d at (b ∷ []) (set d at b) (at + 1)
@@ -31,9 +31,6 @@ reading e w = rw e at w
 -- the first i bytes of a text are written, and then the next
 pub one_more : {d₀ d : List ℕ} {at : ℕ} (text : List ℕ) (i : ℕ) → i < length text → at + i < length d → Wrote d₀ at (take i text) d (at + i) → Wrote d₀ at (take (i + 1) text) (set d (at + i) (get_or text i 0)) (at + (i + 1))
 one_more {d} {at} text i p q w = rw (add-one i, take-suc text i 0) (rw (← add-one i, ← add_assoc) (w then one_byte d (at + i) (get_or text i 0) q))
-
-pub whole-text : {d₀ d : List ℕ} {at r i : ℕ} {text : List ℕ} → length text ≤ i → Wrote d₀ at (take i text) d r → Wrote d₀ at text d r
-whole-text p w = rw (take_all _ _ p) at w
 
 -- what is written from the start of a buffer lies within it, in the form that a loan of that part asks
 pub counted : {d₀ text d : List ℕ} {r : ℕ} → Wrote d₀ 0 text d r → (r ≤ length d) × (r ≡ length (take r d))

@@ -1,4 +1,6 @@
 // Writes of a text into a buffer from a position on. Each answers the position after the text.
+#![tactic(auto)]
+
 ghost use Rattle.std.specs.Prelude.{[], ◌∷◌, ◌+◌, ◌≤◌, ◌<◌, length};
 ghost use Rattle.writer.specs.Text.{spelled, after_tab};
 ghost use Rattle.writer.specs.Wrote.{Wrote};

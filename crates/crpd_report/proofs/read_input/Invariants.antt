@@ -1,0 +1,9 @@
+-- What has come lies within the buffer; each turn reads at least one byte more.
+use Rattle.std.proofs.Common.{◌-◌, ◌≤◌, length}
+use Rattle.crpd_report.proofs.read_input.Given as goal
+
+abbrev pub invariant-loop-len : goal.invariant-loop-len
+invariant-loop-len g l = l.len ≤ length l.buf
+
+abbrev pub decreases-loop-len : goal.decreases-loop-len
+decreases-loop-len g l = length l.initial.buf - l.len
