@@ -3,7 +3,6 @@ use Rattle.std.specs.Prelude.{ℕ, ◌+◌, ◌≤◌, ◌<◌, cond, ◌≡◌,
 use Rattle.demand.specs.Positions.{front, methods}
 use Rattle.demand.specs.declared.Response.{Response}
 use Rattle.demand.specs.declared.Response.TheVariants.{Unschedulable}
-use Rattle.demand.specs.declared.Cell.{Cell}
 use Rattle.demand.specs.declared.Row.{Row}
 use Rattle.demand.specs.Demand.{demand_of}
 use Rattle.demand.specs.Least.{least_of, sooner, latest_of}
@@ -43,16 +42,13 @@ with_combined A m = cond (eqb m 5) (sooner (A 3) (A 4)) (A m)
 unfoldable pub response_of : Table → ℕ → ℕ → Response
 response_of table m i = with_combined (λ m. answer_of table m i) m
 
-abbrev pub cell : Response → Cell
-cell r = record { response = r }
-
 -- the responses of the task at i under each method
 abbrev pub row_of : Table → ℕ → Row
-row_of table i = record { cells = map (λ m. cell (response_of table m i)) methods }
+row_of table i = record { responses = map (λ m. response_of table m i) methods }
 
 -- the rows of all tasks, and after them rows without a response: there are always 32
 abbrev pub no_row : Row
-no_row = record { cells = replicate 6 (cell Unschedulable) }
+no_row = record { responses = replicate 6 Unschedulable }
 
 abbrev pub rows_of : Table → List Row
 rows_of table = front no_row (row_of table) table.count

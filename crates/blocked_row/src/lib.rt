@@ -25,9 +25,7 @@ fn ucb_only(board: &[u64], i: usize, access: Access, row: &mut [u64; ROW])
 {
     let useful = access.ucb.size();
     let plain = *row;
-    let mut j = access.ceiling;
-    while 0 < j {
-        j -= 1;
+    for j in (0..access.ceiling).rev() {
         let added = Hit {
             reloads: useful,
             victim: access.task,
@@ -52,10 +50,9 @@ fn ucb_union(board: &[u64], i: usize, access: Access, row: &mut [u64; ROW])
     ensures { ChargedUnder board.now access 3 i 0 row.new }
 {
     let mut all = CacheSet::EMPTY;
-    let mut j = i;
-    while 0 < j {
-        all = CacheSet::at(board, UCBS + j).union(all);
-        j -= 1;
+    for j in (0..i).rev() {
+        let below = j + 1;
+        all = CacheSet::at(board, UCBS + below).union(all);
         let evictor = CacheSet::at(board, ECBS + j);
         row[j] = with_access(all, access, j).intersection(evictor).size().0;
     }
@@ -68,9 +65,7 @@ fn ecb_union(board: &[u64], i: usize, access: Access, row: &mut [u64; ROW])
 {
     let unions = one_row::evictors(board, i);
     let plain = *row;
-    let mut j = access.ceiling;
-    while 0 < j {
-        j -= 1;
+    for j in (0..access.ceiling).rev() {
         let shared = access.ucb.intersection(CacheSet::at(&unions, j)).size();
         let added = Hit {
             reloads: shared,

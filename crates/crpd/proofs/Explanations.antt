@@ -1,7 +1,6 @@
 -- The whole way from a text to an explanation, by computation. Assumes nothing.
 use mathlib.Core.Path.{◌≡◌, refl}
 use mathlib.Core.List.{List, [], ◌∷◌, flat_map}
-use mathlib.Core.Option.{bind}
 use Prim.Native.Nat.{ℕ}
 use Rattle.fields.specs.Bytes.{every_byte, same_bytes}
 use Rattle.text.specs.Cut.{up_to, after, occurrences, past_tabs, field, lines}
@@ -35,7 +34,7 @@ pub explained-of-table-a : explained text 5 2
     (88 ∷ 9 ∷ 99 ∷ 9 ∷ 52 ∷ 9 ∷ 57 ∷ 9 ∷ 54 ∷ 48 ∷ 9 ∷ 50 ∷ 9 ∷ 48 ∷ 10 ∷
     73 ∷ 9 ∷ 97 ∷ 9 ∷ 49 ∷ 9 ∷ 50 ∷ 9 ∷ 98 ∷ 10 ∷
     73 ∷ 9 ∷ 98 ∷ 9 ∷ 49 ∷ 9 ∷ 50 ∷ 9 ∷ 99 ∷ 10 ∷ [])
-unfolding every_byte same_bytes up_to after occurrences past_tabs field lines read_digits read_number has_shape is_name hex_digit read_hex bind read_set ∅ ◌∪◌ ◌∩◌ size_below size number_of members words_of first_fault text_fault head_in_range head_fault task_in_range task_in_order knows task_fault end_fault blocked_fault line_fault with_line read_from read_lines read_text head_said times_said fields_said task_said at with_task demand_of first_of least_of run fold blocking reloads_with needed_of need_of digits_of spelled flat_map need_line reason_line explanation_of task_ruling_of
+unfolding every_byte same_bytes up_to after occurrences past_tabs field lines read_digits read_number has_shape is_name hex_digit read_hex read_set ∅ ◌∪◌ ◌∩◌ size_below size number_of members words_of first_fault text_fault head_in_range head_fault task_in_range task_in_order knows task_fault end_fault blocked_fault line_fault with_line read_from read_lines read_text head_said times_said fields_said task_said at with_task demand_of first_of least_of run fold blocking reloads_with needed_of need_of digits_of spelled flat_map need_line reason_line explanation_of task_ruling_of
 explained-of-table-a = (refl, refl)
 
 -- K 4 0; T a 2 5 5 1 0 0 0; T b 3 8 6 0 0 0 0
@@ -49,5 +48,5 @@ text-p =
 pub explained-past-its-limit : explained text-p 0 1
     (88 ∷ 9 ∷ 98 ∷ 9 ∷ 48 ∷ 9 ∷ 55 ∷ 9 ∷ 54 ∷ 9 ∷ 51 ∷ 9 ∷ 48 ∷ 10 ∷
     73 ∷ 9 ∷ 97 ∷ 9 ∷ 50 ∷ 9 ∷ 48 ∷ 9 ∷ 45 ∷ 10 ∷ [])
-unfolding every_byte same_bytes up_to after occurrences past_tabs field lines read_digits read_number has_shape is_name hex_digit read_hex bind read_set ∅ ◌∪◌ ◌∩◌ size_below size number_of members words_of first_fault text_fault head_in_range head_fault task_in_range task_in_order knows task_fault end_fault blocked_fault line_fault with_line read_from read_lines read_text head_said times_said fields_said task_said at with_task demand_of first_of least_of run fold blocking reloads_with needed_of need_of digits_of spelled flat_map need_line reason_line explanation_of task_ruling_of
+unfolding every_byte same_bytes up_to after occurrences past_tabs field lines read_digits read_number has_shape is_name hex_digit read_hex read_set ∅ ◌∪◌ ◌∩◌ size_below size number_of members words_of first_fault text_fault head_in_range head_fault task_in_range task_in_order knows task_fault end_fault blocked_fault line_fault with_line read_from read_lines read_text head_said times_said fields_said task_said at with_task demand_of first_of least_of run fold blocking reloads_with needed_of need_of digits_of spelled flat_map need_line reason_line explanation_of task_ruling_of
 explained-past-its-limit = (refl, refl)

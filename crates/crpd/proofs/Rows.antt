@@ -9,7 +9,6 @@ use lib.Dec.{eqb}
 use lib.ListN.{get_or}
 use Rattle.demand.specs.declared.Response.{Response}
 use Rattle.demand.specs.declared.Response.TheVariants.{Within, Unschedulable}
-use Rattle.demand.specs.declared.Cell.{Cell}
 use Rattle.demand.specs.declared.Row.{Row}
 use Rattle.demand.specs.Least.{AnswerInRange, sooner, later, latest_of}
 use Rattle.demand.proofs.LeastLaws.{least-in-range}
@@ -20,8 +19,8 @@ use Rattle.table.specs.declared.Table.{Table}
 use Rattle.table.specs.Tasks.{at}
 use Rattle.table.specs.Accepted.{AcceptedTable}
 use Rattle.demand.proofs.FrontLaws.{front_at}
-use Rattle.analysis.specs.Analysis.{blockers_of, least_under, answer_of, response_of, cell, row_of, rows_of}
-use Rattle.verdicts.specs.Rows.{blank_cell, blank_row, answer_under, answers_in}
+use Rattle.analysis.specs.Analysis.{blockers_of, least_under, answer_of, response_of, row_of, rows_of}
+use Rattle.verdicts.specs.Rows.{blank_answer, blank_row, answer_under, answers_in}
 use Rattle.verdicts.proofs.Lists.{methods-at}
 use Rattle.report.specs.Rows.{Reportable}
 use Rattle.report.specs.Report.{report_of}
@@ -62,15 +61,15 @@ module _ (table : Table) (accepted : AcceptedTable table) where
 
 -- ---- what the rows hold
 
-cell_at : (table : Table) (i m : ℕ) → m < 6 → answer_under (row_of table i) m ≡ response_of table m i
-cell_at table i m h = ap (λ (c : Cell). c.response) (methods-at (λ k. cell (response_of table k i)) m blank_cell h)
+answer_at : (table : Table) (i m : ℕ) → m < 6 → answer_under (row_of table i) m ≡ response_of table m i
+answer_at table i m h = methods-at (λ k. response_of table k i) m blank_answer h
 
 module _ (table : Table) (rows : List Row) (e : rows ≡ rows_of table) where
   row_at : (i : ℕ) → i < table.count → get_or rows i blank_row ≡ row_of table i
   row_at i h = ap (λ (xs : List Row). get_or xs i blank_row) e ∙ front_at _ (row_of table) table.count i blank_row h
 
   pub rows-hold : (m i : ℕ) → m < 6 → i < table.count → answers_in rows m i ≡ response_of table m i
-  rows-hold m i h l = ap (λ (row : Row). answer_under row m) (row_at i l) ∙ cell_at table i m h
+  rows-hold m i h l = ap (λ (row : Row). answer_under row m) (row_at i l) ∙ answer_at table i m h
 
   pub reportable : AcceptedTable table → Reportable table rows
   reportable accepted = record {

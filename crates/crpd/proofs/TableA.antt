@@ -3,7 +3,6 @@
 -- Assumes nothing.
 use mathlib.Core.Path.{◌≡◌, refl}
 use mathlib.Core.List.{List, [], ◌∷◌, flat_map}
-use mathlib.Core.Option.{bind}
 use Prim.Native.Nat.{ℕ}
 use Rattle.fields.specs.Bytes.{every_byte, same_bytes}
 use Rattle.text.specs.Cut.{up_to, after, occurrences, past_tabs, field, lines}
@@ -41,5 +40,5 @@ pub printed-of-table-a : printed text ≡
     82 ∷ 9 ∷ 98 ∷ 9 ∷ 52 ∷ 48 ∷ 9 ∷ 51 ∷ 9 ∷ 55 ∷ 9 ∷ 53 ∷ 9 ∷ 53 ∷ 9 ∷ 53 ∷ 9 ∷ 53 ∷ 10 ∷
     82 ∷ 9 ∷ 99 ∷ 9 ∷ 54 ∷ 48 ∷ 9 ∷ 53 ∷ 9 ∷ 49 ∷ 51 ∷ 9 ∷ 57 ∷ 9 ∷ 49 ∷ 49 ∷ 9 ∷ 57 ∷ 9 ∷ 57 ∷ 10 ∷
     86 ∷ 9 ∷ 121 ∷ 101 ∷ 115 ∷ 9 ∷ 121 ∷ 101 ∷ 115 ∷ 9 ∷ 121 ∷ 101 ∷ 115 ∷ 9 ∷ 121 ∷ 101 ∷ 115 ∷ 9 ∷ 121 ∷ 101 ∷ 115 ∷ 9 ∷ 121 ∷ 101 ∷ 115 ∷ 10 ∷ []
-unfolding printed every_byte same_bytes up_to after occurrences past_tabs field lines read_digits read_number has_shape is_name hex_digit read_hex bind read_set ∅ ◌∪◌ ◌∩◌ size_below size number_of members words_of first_fault text_fault head_in_range head_fault task_in_range task_in_order knows task_fault end_fault blocked_fault line_fault with_line read_from read_lines read_text head_said times_said fields_said task_said at with_task demand_of first_of least_of run fold blocking reloads_with answer_of response_of digits_of spelled flat_map response_line verdict_line report_of
+unfolding printed every_byte same_bytes up_to after occurrences past_tabs field lines read_digits read_number has_shape is_name hex_digit read_hex read_set ∅ ◌∪◌ ◌∩◌ size_below size number_of members words_of first_fault text_fault head_in_range head_fault task_in_range task_in_order knows task_fault end_fault blocked_fault line_fault with_line read_from read_lines read_text head_said times_said fields_said task_said at with_task demand_of first_of least_of run fold blocking reloads_with answer_of response_of digits_of spelled flat_map response_line verdict_line report_of
 printed-of-table-a = refl

@@ -5,6 +5,7 @@ ghost use Rattle.std.specs.Prelude.{◌≤◌, length, IfOk};
 ghost use Rattle.std.specs.Io.{ReadsAtMost};
 
 use std::io::{self, ErrorKind, Print, Read};
+use std::process::ExitCode;
 
 // One read. One that a signal interrupts is tried again; the tries are counted since a loop has to end.
 fn read_some<R: Read>(input: &mut R, buf: &mut [u8]) -> io::Result<usize>
@@ -34,20 +35,29 @@ fn read_input<R: Read>(input: &mut R, buf: &mut [u8]) -> io::Result<usize>
     Ok(len)
 }
 
-fn main(rt: HostRuntime) {
+// How a program ends that the signal of a closed pipe ends, as a shell tells it.
+const CLOSED_PIPE: u8 = 141;
+
+fn main(rt: HostRuntime) -> ExitCode {
     // One byte more than a table may have tells that it is too long; what follows is not read.
     let mut text = [0u8; 16385];
     let Ok(len) = read_input(&mut rt.stdin(), &mut text) else {
         let _ = rt
             .stderr()
             .write_all(b"crpd-report: cannot read standard input\n");
-        return;
+        return ExitCode::SUCCESS;
     };
     let mut out = [0u8; 2746];
     let end = crpd::print(&text[..len], &mut out);
-    if rt.stdout().write_all(&out[..end]).is_err() {
-        let _ = rt
-            .stderr()
-            .write_all(b"crpd-report: cannot write standard output\n");
+    match rt.stdout().write_all(&out[..end]) {
+        Ok(()) => ExitCode::SUCCESS,
+        // Nobody reads any more, so nothing is said: std has the signal ignored that would have ended the program here.
+        Err(error) if error.kind() == ErrorKind::BrokenPipe => ExitCode::from(CLOSED_PIPE),
+        Err(_) => {
+            let _ = rt
+                .stderr()
+                .write_all(b"crpd-report: cannot write standard output\n");
+            ExitCode::SUCCESS
+        }
     }
 }

@@ -23,7 +23,6 @@ use Rattle.one_row.proofs.AheadLaws.{bound-less}
 -- before the next position up: the charges from j on are in the row, `likely` is one of those that are affected, and no UCB shares more with the ECBs
 -- above j than its bound
 pub record Evicted (board : List ℕ) (i j : ℕ) (row bounds : List ℕ) (likely : ℕ) : Type 0 where
-  pub above : j ≤ i
   pub charged : Charged board 4 i j row
   pub from_on : j ≤ likely
   pub below : likely < i + 1
@@ -33,25 +32,22 @@ module _ {board : List ℕ} (i : ℕ) (few : i < 32) where
   -- no UCB has more than all cache sets
   pub evicted-none : {row : List ℕ} → length row ≡ 64 → Evicted board i i row (replicate 32 256) i
   evicted-none long = record {
-    above = omega arith;
     charged = charged-none 4 i long;
     from_on = omega arith;
     below = omega arith;
     bounded = record { long = refl; each = λ k l. rw (get_or-replicate {A = ℕ} 32 k 256 0 l) (size-le _) };
   }
 
-  module _ {row bounds : List ℕ} {likely : ℕ} (from j : ℕ) (next : from ≡ j + 1) (p : Evicted board i from row bounds likely)
+  module _ {row bounds : List ℕ} {likely : ℕ} (j : ℕ) (some : j < i) (p : Evicted board i (j + 1) row bounds likely)
       (ecbs : Set) (down : ecbs ≡ union_of (ecb_on board) (hp (j + 1))) where
     -- what the search leaves
-    pub evicted-next : {after : List ℕ} (shared : Hit) → shared ≡ largest_at (shared_on board ecbs) (between from (i + 1))
+    pub evicted-next : {after : List ℕ} (shared : Hit) → shared ≡ largest_at (shared_on board ecbs) (between (j + 1) (i + 1))
         → AtMost (shared_on board ecbs) after → Evicted board i j (hit_put row j shared) after shared.victim
     evicted-next shared found bounds =
-        let some : j < i = omega (arith, p.above) in
-        let largest = rw (next, down) at found in
+        let largest = rw down at found in
         let victim = rw (← largest) at (first-largest (shared_on board (union_of (ecb_on board) (hp (j + 1)))) (j + 1) (i + 1) (omega arith)) in
         record {
-          above = omega arith;
-          charged = hit-in-front 4 i from j (omega arith) some next p.charged shared
+          charged = hit-in-front 4 i (j + 1) j (omega arith) some refl p.charged shared
               (ap Victim (hit_same row j shared (omega (arith, p.charged.long)) ∙ largest));
           from_on = omega (arith, victim.from_on);
           below = victim.below;

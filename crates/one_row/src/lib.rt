@@ -26,9 +26,7 @@ fn ecb_only(board: &[u64], i: usize, row: &mut [u64; ROW])
     requires { Lent board.now (i + 1) × (length row.old ≡ 64) }
     ensures { Charged board.now 1 i 0 row.new }
 {
-    let mut j = i;
-    while 0 < j {
-        j -= 1;
+    for j in (0..i).rev() {
         row[j] = CacheSet::at(board, ECBS + j).size().0;
     }
 }
@@ -39,11 +37,14 @@ fn ucb_only(board: &[u64], i: usize, row: &mut [u64; ROW])
     ensures { Charged board.now 2 i 0 row.new }
 {
     let mut most = Hit::none(i + 1);
-    let mut j = i;
-    while 0 < j {
-        let reloads = CacheSet::at(board, UCBS + j).size();
-        most = larger(Hit { reloads, victim: j }, most);
-        j -= 1;
+    for j in (0..i).rev() {
+        let below = j + 1;
+        let reloads = CacheSet::at(board, UCBS + below).size();
+        let hit = Hit {
+            reloads,
+            victim: below,
+        };
+        most = larger(hit, most);
         keep_hit(row, j, most);
     }
 }
@@ -54,10 +55,9 @@ fn ucb_union(board: &[u64], i: usize, row: &mut [u64; ROW])
     ensures { Charged board.now 3 i 0 row.new }
 {
     let mut all = CacheSet::EMPTY;
-    let mut j = i;
-    while 0 < j {
-        all = CacheSet::at(board, UCBS + j).union(all);
-        j -= 1;
+    for j in (0..i).rev() {
+        let below = j + 1;
+        all = CacheSet::at(board, UCBS + below).union(all);
         let evictor = CacheSet::at(board, ECBS + j);
         row[j] = all.intersection(evictor).size().0;
     }
@@ -87,12 +87,9 @@ fn ecb_union(board: &[u64], i: usize, row: &mut [u64; ROW])
     let to = i + 1;
     let mut bounds = [CacheSet::MOST; 32];
     let mut likely = i;
-    let mut j = i;
-    while 0 < j {
-        let from = j;
-        j -= 1;
+    for j in (0..i).rev() {
         let ecbs = CacheSet::at(&unions, j);
-        let shared = largest_shared(board, from, to, ecbs, likely, &mut bounds);
+        let shared = largest_shared(board, j + 1, to, ecbs, likely, &mut bounds);
         likely = shared.victim;
         keep_hit(row, j, shared);
     }

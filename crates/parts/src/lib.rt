@@ -38,9 +38,7 @@ fn answer(table: Table, times: u64) -> u64
     for _ in 0..times {
         let rows = rows::responses(table);
         let row = rows[0];
-        let cell = row.cells[0];
-        let response = cell.response;
-        first = ticks(response);
+        first = ticks(row.responses[0]);
     }
     first
 }

@@ -14,8 +14,7 @@ use Rattle.text.specs.Cut.{lines}
 use Rattle.tasks.specs.declared.Task.{Task}
 use Rattle.tasks.specs.Tasks.{name_in, blank, empty_task}
 use Rattle.tasks.specs.Said.{head_said, task_said}
-use Rattle.faults.specs.declared.Finding.{Finding}
-use Rattle.faults.specs.declared.Finding.TheVariants.{Fine, Fault}
+use Rattle.std.specs.Prelude.{Option, Some, None, is_none}
 use Rattle.faults.specs.Faults.{is_ended, text_fault, head_fault, task_fault, end_fault, blocked_fault}
 use Rattle.accesses.specs.declared.Access.{Access}
 use Rattle.accesses.specs.Accesses.{empty_access}
@@ -31,7 +30,7 @@ use Rattle.table.specs.declared.Ruling.TheVariants.{Accepted}
 use Rattle.table.specs.Tasks.{new_table, tasks_of, names_of, accesses_of, with_task, with_access}
 use Rattle.table.specs.Reading.{accepted, unless_fault, with_line, head_table, read_from, read_lines, read_text}
 use Rattle.table_text.specs.TableText.{head_text, task_text, access_text, access_text_in, table_text}
-use Rattle.readable.specs.Tests.{is_fine, head_of, line_of_task, is_vacant, names_before, is_placed, line_of_access, is_unused, is_entered, is_readable}
+use Rattle.readable.specs.Tests.{head_of, line_of_task, is_vacant, names_before, is_placed, line_of_access, is_unused, is_entered, is_readable}
 use Rattle.readable.proofs.Places.{every-is, next-placed, vacant-placed, next-allowed, unused-allowed}
 use Rattle.readable.proofs.Lines.{ended, ended-lines}
 use Rattle.readable.proofs.TaskLines.{line-text, line_kept, head-text, head-kept}
@@ -39,9 +38,9 @@ use Rattle.readable.proofs.AccessLines.{access-text, access-kept, empty-unused}
 use Rattle.readable.proofs.Vacant.{empty-vacant}
 
 -- what comes to be accepted met no fault
-pub unless-accepted : (f : Finding) (line : ℕ) (next : Outcome) (table : Table) → unless_fault f line next ≡ accepted table → (f ≡ Fine) × (next ≡ accepted table)
-unless-accepted Fine line next table e = (refl, e)
-unless-accepted (Fault number) line next table e =
+pub unless-accepted : (f : Option ℕ) (line : ℕ) (next : Outcome) (table : Table) → unless_fault f line next ≡ accepted table → (f ≡ None) × (next ≡ accepted table)
+unless-accepted None line next table e = (refl, e)
+unless-accepted (Some number) line next table e =
     let ruled = ap (λ (o : Outcome). o.ruling) e in
     let z : ◌≡◌ {A = ℕ} 0 1 = cc in absurd (omega arith)
 
@@ -53,17 +52,17 @@ accepted-is o e = λ i. record { ruling = e i; table = o.table }
 
 pub record Grown (table : Table) : Type 0 where
   pub long : length table.tasks ≡ 32
-  pub head : head_fault (head_of table) ≡ Fine
+  pub head : head_fault (head_of table) ≡ None
   pub few : table.count ≤ 32
-  pub passed : (k : ℕ) → k < table.count → task_fault false k (names_before table k) (line_of_task table.sets (get_or table.tasks k blank)) ≡ Fine
+  pub passed : (k : ℕ) → k < table.count → task_fault false k (names_before table k) (line_of_task table.sets (get_or table.tasks k blank)) ≡ None
   pub vacant : (k : ℕ) → table.count ≤ k → k < 32 → get_or table.tasks k blank ≡ empty_task
   pub long-accesses : length table.accesses ≡ 32
   pub few-accesses : table.access_count ≤ 32
-  pub entered : (n : ℕ) → n < table.access_count → access_fault n table.count (line_of_access table.sets (get_or table.accesses n empty_access)) ≡ Fine
+  pub entered : (n : ℕ) → n < table.access_count → access_fault n table.count (line_of_access table.sets (get_or table.accesses n empty_access)) ≡ None
   pub unused : (n : ℕ) → table.access_count ≤ n → n < 32 → get_or table.accesses n empty_access ≡ empty_access
 
 -- the table of line 1
-pub grown-head : (l : List ℕ) → head_fault (head_said l) ≡ Fine → Grown (head_table (head_said l))
+pub grown-head : (l : List ℕ) → head_fault (head_said l) ≡ None → Grown (head_table (head_said l))
 grown-head l e = record {
   long = length-replicate 32 empty_task;
   head = rw (head-kept l (head-holds _ e)) e;
@@ -81,7 +80,7 @@ taken_more : {X : Type 0} (l : List X) (n : ℕ) (v : X) → n < length l → ta
 taken_more l n v h = rw (add-one n) (take-suc-set l n v h)
 
 -- a task more that was not refused, where there is no access yet
-module _ (table : Table) (l : List ℕ) (g : Grown table) (none : table.access_count ≡ 0) (e : task_fault false table.count (names_of table) (task_said table.sets l) ≡ Fine) where
+module _ (table : Table) (l : List ℕ) (g : Grown table) (none : table.access_count ≡ 0) (e : task_fault false table.count (names_of table) (task_said table.sets l) ≡ None) where
   abbrev t : Task
   t = (task_said table.sets l).task
 
@@ -96,13 +95,13 @@ module _ (table : Table) (l : List ℕ) (g : Grown table) (none : table.access_c
   line-is = ap (λ (s : List ℕ). s ++ (10 ∷ [])) (line-text table.sets l head-held.sets.1 head-held.by-four held)
 
   passed-more : (k : ℕ) → k < table.count + 1
-      → task_fault false k (map name_in (take k (set table.tasks table.count t))) (line_of_task table.sets (get_or (set table.tasks table.count t) k blank)) ≡ Fine
+      → task_fault false k (map name_in (take k (set table.tasks table.count t))) (line_of_task table.sets (get_or (set table.tasks table.count t) k blank)) ≡ None
   passed-more k b = elim (dec_lt k table.count) [ yes l ↦ before l | no l ↦ last (omega arith) ]
     where
-      before : k < table.count → task_fault false k (map name_in (take k (set table.tasks table.count t))) (line_of_task table.sets (get_or (set table.tasks table.count t) k blank)) ≡ Fine
+      before : k < table.count → task_fault false k (map name_in (take k (set table.tasks table.count t))) (line_of_task table.sets (get_or (set table.tasks table.count t) k blank)) ≡ None
       before b = rw (take-set-le k table.tasks table.count t (omega arith), get_or-set_other table.tasks table.count k t blank (λ q. omega arith)) (g.passed k b)
 
-      last : k ≡ table.count → task_fault false k (map name_in (take k (set table.tasks table.count t))) (line_of_task table.sets (get_or (set table.tasks table.count t) k blank)) ≡ Fine
+      last : k ≡ table.count → task_fault false k (map name_in (take k (set table.tasks table.count t))) (line_of_task table.sets (get_or (set table.tasks table.count t) k blank)) ≡ None
       last s =
           rw (
             s,
@@ -133,7 +132,7 @@ module _ (table : Table) (l : List ℕ) (g : Grown table) (none : table.access_c
       (sym (append_assoc (head_text table.sets table.brt.0) (flat_map (task_text table.sets) (tasks_of table)) (task_text table.sets t)))
 
 -- an access more that was not refused
-module _ (table : Table) (l : List ℕ) (g : Grown table) (e : access_fault table.access_count table.count (access_said table.sets (names_of table) l) ≡ Fine) where
+module _ (table : Table) (l : List ℕ) (g : Grown table) (e : access_fault table.access_count table.count (access_said table.sets (names_of table) l) ≡ None) where
   abbrev a : Access
   a = (access_said table.sets (names_of table) l).access
 
@@ -151,13 +150,13 @@ module _ (table : Table) (l : List ℕ) (g : Grown table) (e : access_fault tabl
   unfolding access_text
   access-line-is = ap (λ (s : List ℕ). s ++ (10 ∷ [])) (access-text table.sets (tasks_of table) l head-holds-too.sets.1 head-holds-too.by-four among)
 
-  entered-more : (n : ℕ) → n < table.access_count + 1 → access_fault n table.count (line_of_access table.sets (get_or (set table.accesses table.access_count a) n empty_access)) ≡ Fine
+  entered-more : (n : ℕ) → n < table.access_count + 1 → access_fault n table.count (line_of_access table.sets (get_or (set table.accesses table.access_count a) n empty_access)) ≡ None
   entered-more n b = elim (dec_lt n table.access_count) [ yes l ↦ before l | no l ↦ last (omega arith) ]
     where
-      before : n < table.access_count → access_fault n table.count (line_of_access table.sets (get_or (set table.accesses table.access_count a) n empty_access)) ≡ Fine
+      before : n < table.access_count → access_fault n table.count (line_of_access table.sets (get_or (set table.accesses table.access_count a) n empty_access)) ≡ None
       before b = rw (get_or-set_other table.accesses table.access_count n a empty_access (λ q. omega arith)) (g.entered n b)
 
-      last : n ≡ table.access_count → access_fault n table.count (line_of_access table.sets (get_or (set table.accesses table.access_count a) n empty_access)) ≡ Fine
+      last : n ≡ table.access_count → access_fault n table.count (line_of_access table.sets (get_or (set table.accesses table.access_count a) n empty_access)) ≡ None
       last s =
           rw (
             s,
@@ -199,7 +198,7 @@ grown-line table l _ g (adds-access e) = record { grown = grown-access table l g
 pub record ReadOn (table : Table) (ls : List (List ℕ)) (result : Table) : Type 0 where
   pub grown : Grown result
   pub some : 1 ≤ result.count
-  pub unblocked : blocked_fault result.access_count (tasks_of result) ≡ Fine
+  pub unblocked : blocked_fault result.access_count (tasks_of result) ≡ None
   pub text : table_text result ≡ table_text table ++ ended ls
 
 pub read-on : (line : ℕ) (table : Table) (ls : List (List ℕ)) (result : Table) → Grown table → read_from line table ls ≡ accepted result → ReadOn table ls result
@@ -224,20 +223,20 @@ read-on line table (l ∷ ls) result g e =
 -- ---- a whole text
 
 -- the tests that a table with a task passes, once it is read
-pub grown-readable : (table : Table) → Grown table → 1 ≤ table.count → blocked_fault table.access_count (tasks_of table) ≡ Fine → is_readable table ≡ true
+pub grown-readable : (table : Table) → Grown table → 1 ≤ table.count → blocked_fault table.access_count (tasks_of table) ≡ None → is_readable table ≡ true
 unfolding is_readable
 grown-readable table g some u =
     rw (g.head, le-leb 1 table.count some, le-leb table.count 32 g.few, le-leb table.access_count 32 g.few-accesses, every-is 32 (is_placed table) placed, every-is 32 (is_entered table) entered, u)
   where
     placed : (k : ℕ) → k < 32 → is_placed table k ≡ true
     placed k h = elim (dec_lt k table.count) [
-      | yes l ↦ sym (next-placed table k l) ∙ ap is_fine (g.passed k l)
+      | yes l ↦ sym (next-placed table k l) ∙ ap is_none (g.passed k l)
       | no l ↦ sym (vacant-placed table k (omega arith)) ∙ ap is_vacant (g.vacant k (omega arith) h) ∙ empty-vacant
     ]
 
     entered : (n : ℕ) → n < 32 → is_entered table n ≡ true
     entered n h = elim (dec_lt n table.access_count) [
-      | yes l ↦ sym (next-allowed _ table.count table.sets n _ l) ∙ ap is_fine (g.entered n l)
+      | yes l ↦ sym (next-allowed _ table.count table.sets n _ l) ∙ ap is_none (g.entered n l)
       | no l ↦ sym (unused-allowed _ table.count table.sets n _ (omega arith)) ∙ ap is_unused (g.unused n (omega arith) h) ∙ empty-unused
     ]
 
@@ -259,7 +258,7 @@ lines-read (l ∷ ls) table e =
     let r = read-on 2 (head_table (head_said l)) ls table (grown-head l p.0) p.1 in
     record { readable = grown-readable table r.grown r.some r.unblocked; is-text = whole p.0 r }
   where
-    whole : head_fault (head_said l) ≡ Fine → ReadOn (head_table (head_said l)) ls table → l ++ (10 ∷ []) ++ ended ls ≡ table_text table
+    whole : head_fault (head_said l) ≡ None → ReadOn (head_table (head_said l)) ls table → l ++ (10 ∷ []) ++ ended ls ≡ table_text table
     whole fine r =
         sym (r.text ∙ ap (λ (s : List ℕ). s ++ ended ls) (first-line-text _ _) ∙ ap (λ (s : List ℕ). s ++ (10 ∷ []) ++ ended ls) (sym (head-text l (head-holds _ fine))))
 

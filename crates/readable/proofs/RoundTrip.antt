@@ -15,8 +15,7 @@ use Rattle.tasks.specs.declared.Name.{Name}
 use Rattle.tasks.specs.declared.Task.{Task}
 use Rattle.tasks.specs.Tasks.{name_in, blank, empty_task}
 use Rattle.tasks.specs.Said.{task_said}
-use Rattle.faults.specs.declared.Finding.{Finding}
-use Rattle.faults.specs.declared.Finding.TheVariants.{Fine, Fault}
+use Rattle.std.specs.Prelude.{Option, Some, None, is_none}
 use Rattle.faults.specs.Faults.{is_ended, is_within, first_fault, position_of, text_fault, head_fault, task_fault, blocked_fault}
 use Rattle.faults.proofs.First.{next_of, first-is}
 use Rattle.faults.proofs.Known.{not_known, same-bytes-self}
@@ -37,7 +36,7 @@ use Rattle.writer.proofs.Writes.{flat_map-map}
 use Rattle.table_text.specs.TableText.{head_text, task_text, access_text, table_text}
 use Rattle.table_text.proofs.Lengths.{table-short}
 use Rattle.readable.specs.Readable.{Whole, Readable}
-use Rattle.readable.specs.Tests.{is_fine, head_of, is_filled, line_of_task, names_before, is_placed, line_of_access, is_entered, every_below, is_readable}
+use Rattle.readable.specs.Tests.{head_of, is_filled, line_of_task, names_before, is_placed, line_of_access, is_entered, every_below, is_readable}
 use Rattle.readable.proofs.Places.{every-at, next-placed, vacant-placed, next-allowed, unused-allowed}
 use Rattle.readable.proofs.Filled.{filled_to, first-filled, filled_next, all-filled}
 use Rattle.readable.proofs.Lines.{AllPlain, field_at, joined-plain, ended, NoneEnds, lines-ended, is-ended}
@@ -46,9 +45,9 @@ use Rattle.readable.proofs.AccessLines.{access_fields, access_bytes, access-plai
 use Rattle.readable.proofs.Vacant.{vacant-empty}
 use Rattle.readable.proofs.Reading.{text-read}
 
-fine-is : (f : Finding) → is_fine f ≡ true → f ≡ Fine
-fine-is Fine e = refl
-fine-is (Fault number) e = absurd (false≢true e)
+fine-is : (f : Option ℕ) → is_none f ≡ true → f ≡ None
+fine-is None e = refl
+fine-is (Some number) e = absurd (false≢true e)
 
 -- the lines of a table's text: line 1, those of the tasks, and those of the accesses
 abbrev access_bytes_in : ℕ → List Task → Access → List ℕ
@@ -83,22 +82,22 @@ none-ends-append (l ∷ ls) ms p q = (p.0, none-ends-append ls ms p.1 q)
 -- ---- a table that passes the tests
 
 record Tested (table : Table) : Type 0 where
-  head : head_fault (head_of table) ≡ Fine
+  head : head_fault (head_of table) ≡ None
   some : 1 ≤ table.count
   few : table.count ≤ 32
   few-accesses : table.access_count ≤ 32
   placed : every_below 32 (is_placed table) ≡ true
   entered : every_below 32 (is_entered table) ≡ true
-  unblocked : blocked_fault table.access_count (tasks_of table) ≡ Fine
+  unblocked : blocked_fault table.access_count (tasks_of table) ≡ None
 
 tests : (table : Table) → is_readable table ≡ true → Tested table
 unfolding is_readable
 tests table passes =
-    let b = (and-eq-true_iff _ (is_fine (blocked_fault table.access_count (tasks_of table)))).0 passes in
+    let b = (and-eq-true_iff _ (is_none (blocked_fault table.access_count (tasks_of table)))).0 passes in
     let e = (and-eq-true_iff _ (every_below 32 (is_entered table))).0 b.0 in
     let p = (and-eq-true_iff _ (every_below 32 (is_placed table))).0 e.0 in
     let f = (and-eq-true_iff _ (leb table.access_count 32)).0 p.0 in
-    let q = (and-eq-true_iff (is_fine (head_fault (head_of table))) (is_within 1 32 table.count)).0 f.0 in
+    let q = (and-eq-true_iff (is_none (head_fault (head_of table))) (is_within 1 32 table.count)).0 f.0 in
     let w = (and-eq-true_iff (leb 1 table.count) (leb table.count 32)).0 q.1 in
     record {
       head = fine-is _ q.0;
@@ -135,7 +134,7 @@ module _ (table : Table) (whole : Whole table) (passes : is_readable table ≡ t
   abbrev task : ℕ → Task
   task k = get_or table.tasks k blank
 
-  task-fine : (k : ℕ) → k < table.count → task_fault false k (names_before table k) (line_of_task table.sets (task k)) ≡ Fine
+  task-fine : (k : ℕ) → k < table.count → task_fault false k (names_before table k) (line_of_task table.sets (task k)) ≡ None
   task-fine k h = fine-is _ (next-placed table k h ∙ every-at 32 (is_placed table) tested.placed k (omega (arith, few)))
 
   task-held : (k : ℕ) → k < table.count → TaskHolds k (names_before table k) (line_of_task table.sets (task k))
@@ -147,7 +146,7 @@ module _ (table : Table) (whole : Whole table) (passes : is_readable table ≡ t
   abbrev access : ℕ → Access
   access n = get_or table.accesses n empty_access
 
-  access-fine : (n : ℕ) → n < table.access_count → access_fault n table.count (line_of_access table.sets (access n)) ≡ Fine
+  access-fine : (n : ℕ) → n < table.access_count → access_fault n table.count (line_of_access table.sets (access n)) ≡ None
   access-fine n h = fine-is _ (next-allowed _ table.count table.sets n _ h ∙ every-at 32 (is_entered table) tested.entered n (omega (arith, few-accesses)))
 
   access-held : (n : ℕ) → n < table.access_count → AccessHolds n table.count (line_of_access table.sets (access n))
@@ -236,7 +235,7 @@ module _ (table : Table) (whole : Whole table) (passes : is_readable table ≡ t
   task-said : (k : ℕ) → k < table.count → task_said table.sets (task_bytes table.sets (task k)) ≡ line_of_task table.sets (task k)
   task-said k h = line-says table.sets (task k) head-held.sets.1 head-held.by-four (task-held k h)
 
-  task-line-fine : (k : ℕ) → k < table.count → line_fault (part k 0) (task_bytes table.sets (task k)) ≡ Fine
+  task-line-fine : (k : ℕ) → k < table.count → line_fault (part k 0) (task_bytes table.sets (task k)) ≡ None
   task-line-fine k h = task-found (part k 0) _ (task-line k h) refl ∙ rw (names-to k 0 (omega (arith, few)), task-said k h) (task-fine k h)
 
   task-line-adds : (k : ℕ) → k < table.count → with_line (part k 0) (task_bytes table.sets (task k)) ≡ part (k + 1) 0
@@ -267,7 +266,7 @@ module _ (table : Table) (whole : Whole table) (passes : is_readable table ≡ t
       (ap (λ (m : Name). position_of m (names_of table)) t-is ∙ own-position (access n).task p.of-task)
       (ap (λ (m : Name). position_of m (names_of table)) c-is ∙ own-position (access n).ceiling c)
 
-  access-line-fine : (n : ℕ) → n < table.access_count → line_fault (part table.count n) (access_line n) ≡ Fine
+  access-line-fine : (n : ℕ) → n < table.access_count → line_fault (part table.count n) (access_line n) ≡ None
   access-line-fine n h =
       access-found (part table.count n) _ (no-task-line n h) (access-line n h)
       ∙ rw (names-to table.count n few, access-is-said n h) (access-fine n h)

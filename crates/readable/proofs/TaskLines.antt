@@ -15,14 +15,13 @@ use Rattle.text.proofs.Parts.{up-to-part}
 use Rattle.fields.specs.Bytes.{every_byte, is_name_byte, same_bytes}
 use Rattle.fields.specs.Fields.{is_number, number, is_letter, has_shape, is_name}
 use Rattle.sets.specs.declared.CacheSet.{CacheSet}
-use Rattle.sets.specs.declared.SetField.{SetField}
-use Rattle.sets.specs.declared.SetField.TheVariants.{Marks, Bad}
+use Rattle.std.specs.Prelude.{Option, Some, None, is_some, unwrap_or}
 use Rattle.sets.specs.Field.{read_set}
 use Rattle.sets.specs.Words.{number_of}
 use Rattle.tasks.specs.declared.Name.{Name}
 use Rattle.tasks.specs.declared.Task.{Task}
-use Rattle.tasks.specs.Tasks.{name_text, pack_name}
-use Rattle.tasks.specs.Said.{is_marks, marks_of, head_said, times_said, fields_said, task_said}
+use Rattle.tasks.specs.Tasks.{name_text, pack_name, no_sets}
+use Rattle.tasks.specs.Said.{head_said, times_said, fields_said, task_said}
 use Rattle.tasks.proofs.Names.{name-short, name-kept}
 use Rattle.faults.proofs.Known.{same-bytes-self}
 use Rattle.faults.proofs.LineLaws.{HeadHolds, TaskHolds, ranges, order}
@@ -223,9 +222,9 @@ shape-says letter n line e =
     let p = (and-eq-true_iff (is_letter letter (field 0 line)) (eqb (field_count line) n)).0 e in
     (letter-is letter (field 0 line) p.0, eqb-true (field_count line) n p.1)
 
-pub marks-are : (r : SetField) → is_marks r ≡ true → r ≡ Marks (marks_of r)
-marks-are (Marks c) e = refl
-marks-are Bad e = absurd (false≢true e)
+pub marks-are : (r : Option CacheSet) → is_some r ≡ true → r ≡ Some (unwrap_or r no_sets)
+marks-are (Some c) e = refl
+marks-are None e = absurd (false≢true e)
 
 nine-fields : (line : List ℕ) → occurrences 9 line + 1 ≡ 9
     → line ≡ joined (field 0 line) (field 1 line ∷ field 2 line ∷ field 3 line ∷ field 4 line ∷ field 5 line ∷ field 6 line ∷ field 7 line ∷ field 8 line ∷ [])
@@ -261,14 +260,14 @@ module _ (sets : ℕ) (l : List ℕ) (few : sets ≤ 256) (by-four : sets % 4 �
       let o = order (task_said sets l).task h.in_order in
       (omega (arith, r.work), omega (arith, r.period), omega (arith, r.deadline), omega (arith, r.deadline, o.0), omega (arith, r.blocking))
 
-  sets-say : (is_marks (read_set sets (field 7 l)) ≡ true) × (is_marks (read_set sets (field 8 l)) ≡ true)
+  sets-say : (is_some (read_set sets (field 7 l)) ≡ true) × (is_some (read_set sets (field 8 l)) ≡ true)
   unfolding task_said fields_said
-  sets-say = (and-eq-true_iff (is_marks (read_set sets (field 7 l))) (is_marks (read_set sets (field 8 l)))).0 h.marked
+  sets-say = (and-eq-true_iff (is_some (read_set sets (field 7 l))) (is_some (read_set sets (field 8 l)))).0 h.marked
 
-  ucb-says : read_set sets (field 7 l) ≡ Marks (marks_of (read_set sets (field 7 l)))
+  ucb-says : read_set sets (field 7 l) ≡ Some (unwrap_or (read_set sets (field 7 l)) no_sets)
   ucb-says = marks-are _ sets-say.0
 
-  ecb-says : read_set sets (field 8 l) ≡ Marks (marks_of (read_set sets (field 8 l)))
+  ecb-says : read_set sets (field 8 l) ≡ Some (unwrap_or (read_set sets (field 8 l)) no_sets)
   ecb-says = marks-are _ sets-say.1
 
   pub line-text : l ≡ task_bytes sets (task_said sets l).task

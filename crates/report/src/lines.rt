@@ -33,9 +33,7 @@ fn put_answers(out: &mut [u8], at: usize, row: Row) -> usize
 {
     let mut next = at;
     for m in 0..6usize {
-        let cell = row.cells[m];
-        let answer = cell.response;
-        next = put_answer(out, next, answer);
+        next = put_answer(out, next, row.responses[m]);
     }
     next
 }

@@ -14,7 +14,6 @@ use Rattle.sets.specs.Sets.{Set}
 use Rattle.demand.specs.Positions.{front, methods}
 use Rattle.demand.specs.declared.Response.{Response}
 use Rattle.demand.specs.declared.Response.TheVariants.{Within, Unschedulable}
-use Rattle.demand.specs.declared.Cell.{Cell}
 use Rattle.demand.specs.declared.Row.{Row}
 use Rattle.demand.specs.Demand.{term_of, demand_of, NoMore}
 use Rattle.demand.specs.Terms.{period_in, jitter_in, term_in, InRange, Handed}
@@ -38,7 +37,7 @@ use Rattle.costs.specs.Costs.{reloads_with, weight_on_under, term_on_under}
 use Rattle.costs.proofs.OrderLaws.{ucb-union-with, ecb-union-with}
 use Rattle.costs.proofs.BoardLaws.{weight-past, on-ranged, terms-in, lent-handed}
 use Rattle.carried.specs.Carried.{Weighed, WeighedUnder}
-use Rattle.analysis.specs.Analysis.{answer_of, least_on_under, latest_on, with_combined, response_of, cell, row_of, no_row, rows_of, Blocks}
+use Rattle.analysis.specs.Analysis.{answer_of, least_on_under, latest_on, with_combined, response_of, row_of, no_row, rows_of, Blocks}
 use Rattle.analysis.proofs.AnswerLaws.{answer-is, latest-first, latest-step}
 use Rattle.rows.specs.declared.Singles.{Singles}
 use Rattle.rows.specs.Rows.{plain_access_on, blockers_on, row_on, Tell, Searched, Falls, TellUnder, TellWanted, TellOver, LaterEach, row_told, plain_on, Left, BlocksOn, AllBlockOn, Answered, LentAccesses}
@@ -247,9 +246,9 @@ module _ {board : List ℕ} {n : ℕ} (lent : Lent board n) (i : ℕ) (here : i 
 
 -- ---- a row of six answers
 
-cells_are : (A : ℕ → Response) (a b c d e : Response) → a ≡ A 0 → b ≡ A 1 → c ≡ A 2 → d ≡ A 3 → e ≡ A 4
-    → (cell a ∷ cell b ∷ cell c ∷ cell d ∷ cell e ∷ cell (sooner d e) ∷ []) ≡ map (λ m. cell (with_combined A m)) methods
-cells_are A a b c d e p q r s t = cc
+answers_are : (A : ℕ → Response) (a b c d e : Response) → a ≡ A 0 → b ≡ A 1 → c ≡ A 2 → d ≡ A 3 → e ≡ A 4
+    → (a ∷ b ∷ c ∷ d ∷ e ∷ sooner d e ∷ []) ≡ map (with_combined A) methods
+answers_are A a b c d e p q r s t = cc
 
 -- ---- over the accesses that may block, one after the other
 
@@ -325,11 +324,11 @@ unfolding latest_on
 tell-only board i a = tell-as (λ m. sym (latest-one _))
 
 -- the row that they tell
-pub row_is_told : (board : List ℕ) (accesses : List Access) (i : ℕ) (s : Singles) (r : Row) → r.cells ≡ row_told s → TellOver board (blockers_on board accesses i) i s
+pub row_is_told : (board : List ℕ) (accesses : List Access) (i : ℕ) (s : Singles) (r : Row) → r.responses ≡ row_told s → TellOver board (blockers_on board accesses i) i s
     → r ≡ row_on board accesses i
 row_is_told board accesses i s r e p =
-    ap (λ (cs : List Cell). record { cells = cs })
-    (e ∙ cells_are (λ (m : ℕ). latest_on board (blockers_on board accesses i) m i (limit_on board i)) _ _ _ _ _ p.none p.ecb-only p.ucb-only p.ucb-union p.ecb-union)
+    ap (λ (rs : List Response). record { responses = rs })
+    (e ∙ answers_are (λ (m : ℕ). latest_on board (blockers_on board accesses i) m i (limit_on board i)) _ _ _ _ _ p.none p.ecb-only p.ucb-only p.ucb-union p.ecb-union)
 
 -- ---- B as an access
 
@@ -424,12 +423,12 @@ module _ (table : Table) (board : List ℕ) (is : BoardOf table table.count boar
   unfolding response_of
   rows_same =
       front_same no_row (row_on board (accesses_of table)) (row_of table) table.count
-      (λ i l. ap (λ (cs : List Cell). record { cells = cs })
-      (cells_same (λ m. latest_on board (blockers_on board (accesses_of table) i) m i (limit_on board i)) (λ m. answer_of table m i)
+      (λ i l. ap (λ (rs : List Response). record { responses = rs })
+      (answers_same (λ m. latest_on board (blockers_on board (accesses_of table) i) m i (limit_on board i)) (λ m. answer_of table m i)
       (λ m. rw (plain-is i l) (answer-is table table.count board is i l m))))
     where
-      cells_same : (A B : ℕ → Response) → ((m : ℕ) → A m ≡ B m) → map (λ m. cell (with_combined A m)) methods ≡ map (λ m. cell (with_combined B m)) methods
-      cells_same A B p =
+      answers_same : (A B : ℕ → Response) → ((m : ℕ) → A m ≡ B m) → map (with_combined A) methods ≡ map (with_combined B) methods
+      answers_same A B p =
           let a = p 0 in
           let b = p 1 in
           let c = p 2 in

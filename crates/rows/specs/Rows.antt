@@ -1,6 +1,5 @@
 -- The answers for all tasks of a board, whose accesses are lent beside it.
 use Rattle.std.specs.Prelude.{ℕ, ◌+◌, ◌-◌, ◌≤◌, ◌<◌, ◌≡◌, false, List, [], ◌∷◌, map, get_or, length, take}
-use Rattle.demand.specs.declared.Cell.{Cell}
 use Rattle.demand.specs.declared.Row.{Row}
 use Rattle.demand.specs.declared.Response.{Response}
 use Rattle.demand.specs.Positions.{methods}
@@ -14,7 +13,7 @@ use Rattle.accesses.specs.declared.Blockers.{Blockers}
 use Rattle.accesses.specs.Accesses.{may_block, blocking, or_else, empty_access}
 use Rattle.board.specs.Board.{work_on, own_on, limit_on}
 use Rattle.rows.specs.declared.Singles.{Singles}
-use Rattle.analysis.specs.Analysis.{least_on_under, latest_on, with_combined, cell, Blocks}
+use Rattle.analysis.specs.Analysis.{least_on_under, latest_on, with_combined, Blocks}
 
 -- B of the task at i as an access
 abbrev pub plain_access_on : List ℕ → ℕ → Access
@@ -26,7 +25,7 @@ blockers_on board accesses i = or_else (plain_access_on board i) (blocking i acc
 
 -- the row of answers for the task at i
 abbrev pub row_on : List ℕ → List Access → ℕ → Row
-row_on board accesses i = record { cells = map (λ m. cell (with_combined (λ k. latest_on board (blockers_on board accesses i) k i (limit_on board i)) m)) methods }
+row_on board accesses i = record { responses = map (with_combined (λ k. latest_on board (blockers_on board accesses i) k i (limit_on board i))) methods }
 
 -- numbers that tell these answers of the methods 0 to 4
 pub record Tell (A : ℕ → Response) (s : Singles) : Type 0 where
@@ -105,12 +104,12 @@ pub record LaterEach (a b r : Singles) : Type 0 where
   pub ecb-union : told_of r.ecb_union ≡ later (told_of a.ecb_union) (told_of b.ecb_union)
 
 -- the row that they tell, with combined
-abbrev pub row_told : Singles → List Cell
+abbrev pub row_told : Singles → List Response
 row_told s =
-    cell (told_of s.none)
-    ∷ cell (told_of s.ecb_only)
-    ∷ cell (told_of s.ucb_only)
-    ∷ cell (told_of s.ucb_union)
-    ∷ cell (told_of s.ecb_union)
-    ∷ cell (sooner (told_of s.ucb_union) (told_of s.ecb_union))
+    told_of s.none
+    ∷ told_of s.ecb_only
+    ∷ told_of s.ucb_only
+    ∷ told_of s.ucb_union
+    ∷ told_of s.ecb_union
+    ∷ sooner (told_of s.ucb_union) (told_of s.ecb_union)
     ∷ []

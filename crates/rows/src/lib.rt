@@ -15,7 +15,7 @@ ghost use Rattle.rows.specs.Rows.{plain_access_on, row_on, Searched, Falls, Tell
 
 use accesses::{Access, Blockers};
 use board::{LIMITS, OWNS, WORKS};
-use demand::{Cell, JITTERS, Response, Row};
+use demand::{JITTERS, Response, Row};
 use sets::CacheSet;
 use table::Table;
 use units::Ticks;
@@ -263,29 +263,18 @@ fn blocked(
 
 // The row that the ticks tell.
 fn row_of(ticks: Singles) -> Row
-    ensures { result.cells ≡ row_told ticks }
+    ensures { result.responses ≡ row_told ticks }
 {
     let ucb_union = demand::told(ticks.ucb_union);
     let ecb_union = demand::told(ticks.ecb_union);
-    let combined = demand::combined(ucb_union, ecb_union);
     Row {
-        cells: [
-            Cell {
-                response: demand::told(ticks.none),
-            },
-            Cell {
-                response: demand::told(ticks.ecb_only),
-            },
-            Cell {
-                response: demand::told(ticks.ucb_only),
-            },
-            Cell {
-                response: ucb_union,
-            },
-            Cell {
-                response: ecb_union,
-            },
-            Cell { response: combined },
+        responses: [
+            demand::told(ticks.none),
+            demand::told(ticks.ecb_only),
+            demand::told(ticks.ucb_only),
+            ucb_union,
+            ecb_union,
+            demand::combined(ucb_union, ecb_union),
         ],
     }
 }
@@ -330,9 +319,7 @@ fn rows(board: &[u64], count: usize, accesses: [Access; 32], listed: usize) -> [
     let mut ledger = [0u64; carried::LEDGER];
     let mut weights = [0u64; carried::WEIGHTS];
     let mut rows = [Row {
-        cells: [Cell {
-            response: Response::Unschedulable,
-        }; 6],
+        responses: [Response::Unschedulable; 6],
     }; 32];
     let mut counts = [1u64; 32];
     let mut ends = [0u64; 32];

@@ -11,14 +11,13 @@ use lib.Dec.{ltb}
 use lib.ListN.{length, take, get_or, length-map}
 use lib.Seq.{length-take-le, get_or-take}
 use Rattle.text.specs.Cut.{field, lines}
-use Rattle.fields.specs.declared.NumberField.TheVariants.{Value}
+use Rattle.std.specs.Prelude.{Some, None}
 use Rattle.fields.specs.Bytes.{every_byte}
 use Rattle.fields.specs.Fields.{read_digits, is_number, number, is_name}
 use Rattle.tasks.specs.declared.Name.{Name}
 use Rattle.tasks.specs.declared.Task.{Task}
 use Rattle.tasks.specs.Tasks.{name_text, name_in, blank, empty_task}
 use Rattle.tasks.specs.Said.{head_said, times_said, fields_said, task_said}
-use Rattle.faults.specs.declared.Finding.TheVariants.{Fine}
 use Rattle.faults.specs.Faults.{first_that, text_fault, head_fault, task_in_range, task_in_order, task_fault, blocked_fault}
 use Rattle.faults.proofs.LineLaws.{head-holds, TaskHolds, task-holds, Ranges, ranges}
 use Rattle.accesses.specs.declared.Access.{Access}
@@ -50,7 +49,7 @@ use Rattle.scaling.proofs.ScaledLaws.{unworked, scaled-tasks, scaled-place, scal
 record Given (table : Table) : Type 0 where
   grown : Grown table
   some : 1 ≤ table.count
-  unblocked : blocked_fault table.access_count (tasks_of table) ≡ Fine
+  unblocked : blocked_fault table.access_count (tasks_of table) ≡ None
 
 lines-give : (ls : List (List ℕ)) (table : Table) → read_lines ls ≡ accepted table → Given table
 unfolding read_lines
@@ -92,7 +91,7 @@ module _ (k : ℕ) (t : Task) (some : 1 ≤ k) (fits : scaled_work k t.work.0 �
       rw (le-leb 1 (scaled_work k t.work.0) (work-some t.work.0 k r.0 some), le-leb (scaled_work k t.work.0) 250000000 fits)
       (rw (le-leb 1 t.work.0 r.0, le-leb t.work.0 250000000 r.1) at e)
 
-  fine-scaled : (count : ℕ) (names : List Name) (sets : ℕ) → task_fault false count names (line_of_task sets t) ≡ Fine → task_fault false count names (line_of_task sets (scaled_task k t)) ≡ Fine
+  fine-scaled : (count : ℕ) (names : List Name) (sets : ℕ) → task_fault false count names (line_of_task sets t) ≡ None → task_fault false count names (line_of_task sets (scaled_task k t)) ≡ None
   unfolding line_of_task task_fault task_in_order
   fine-scaled count names sets e =
       let r : task_in_range t ≡ true = (task-holds count names (line_of_task sets t) e).in-range in
@@ -113,7 +112,7 @@ unblocked-scaled k accesses ts = rw (first-map (scaled_task k) (λ t. ltb 0 t.bl
 
 -- no two numbers are written alike
 spelled-once : (m n : ℕ) → spelled m ≡ spelled n → m ≡ n
-spelled-once m n e = let same : Value m ≡ Value n = sym (digits-read m) ∙ ap (read_digits 0) e ∙ digits-read n in cc
+spelled-once m n e = let same : Some m ≡ Some n = sym (digits-read m) ∙ ap (read_digits 0) e ∙ digits-read n in cc
 
 module _ (sets : ℕ) (t : Task) (plain : AllPlain ((84 ∷ []) ∷ task_fields sets t)) where
   abbrev line : List ℕ
@@ -135,7 +134,7 @@ module _ (sets : ℕ) (t : Task) (plain : AllPlain ((84 ∷ []) ∷ task_fields 
       omega arith
 
   -- and it is no access line
-  line-work : (table : Table) → line_fault table line ≡ Fine → t.work.0 ≤ 250000000
+  line-work : (table : Table) → line_fault table line ≡ None → t.work.0 ≤ 250000000
   unfolding access_said access_fields_said
   line-work table e = go (adds table line e)
     where
@@ -207,13 +206,13 @@ module _ (table : Table) (readable : Readable table) (k : ℕ) (some : 1 ≤ k) 
     unused = grown.unused;
   }
     where
-      passed : (j : ℕ) → j < table.count → task_fault false j (names_before scaled j) (line_of_task table.sets (get_or (map (scaled_task k) table.tasks) j blank)) ≡ Fine
+      passed : (j : ℕ) → j < table.count → task_fault false j (names_before scaled j) (line_of_task table.sets (get_or (map (scaled_task k) table.tasks) j blank)) ≡ None
       passed j h =
           let is : at table j ≡ get_or table.tasks j blank = get_or-take table.count table.tasks j blank h in
           rw (names-scaled j, scaled-place k table.tasks j)
           (fine-scaled k (get_or table.tasks j blank) some (rw is at (fits j h)) j (names_before table j) table.sets (grown.passed j h))
 
-  unblocked : blocked_fault table.access_count (tasks_of scaled) ≡ Fine
+  unblocked : blocked_fault table.access_count (tasks_of scaled) ≡ None
   unblocked = rw (scaled-tasks k table, unblocked-scaled k table.access_count (tasks_of table)) (given table readable).unblocked
 
   readable-scaled : FitsBy k table → is_readable scaled ≡ true

@@ -33,9 +33,7 @@ fn with_row(so_far: Verdicts, row: Row) -> Verdicts
 {
     let mut yes = [false; 6];
     for m in 0..6usize {
-        let cell = row.cells[m];
-        let answer = cell.response;
-        yes[m] = so_far.yes[m] & has_response(answer);
+        yes[m] = so_far.yes[m] & has_response(row.responses[m]);
     }
     Verdicts { yes }
 }

@@ -1,5 +1,5 @@
 -- The loop's invariant: the charges from j on are in the row, and `all` is the union of the UCBs below j.
-use Rattle.std.proofs.Common.{◌≡◌, ◌+◌, ◌≤◌}
+use Rattle.std.proofs.Common.{◌≡◌, ◌+◌}
 use Rattle.sets.specs.Words.{members}
 use Rattle.demand.specs.Positions.{between}
 use Rattle.board.specs.Board.{ucb_on}
@@ -9,7 +9,4 @@ use Rattle.blocked_row.proofs.ucb_union.Given as goal
 
 abbrev pub invariant-loop-j : goal.invariant-loop-j
 invariant-loop-j l =
-    (l.j ≤ l.i) × ChargedUnder l.board l.access 3 l.i l.j l.row × (members l.all ≡ union_of (ucb_on l.board) (between (l.j + 1) (l.i + 1)))
-
-abbrev pub decreases-loop-j : goal.decreases-loop-j
-decreases-loop-j l = l.j
+    ChargedUnder l.board l.access 3 l.i l.j l.row × (members l.all ≡ union_of (ucb_on l.board) (between (l.j + 1) (l.i + 1)))

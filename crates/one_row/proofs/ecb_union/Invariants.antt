@@ -4,6 +4,3 @@ use Rattle.one_row.proofs.ecb_union.Given as goal
 
 abbrev pub invariant-loop-j : goal.invariant-loop-j
 invariant-loop-j l = Evicted l.board l.i l.j l.row l.bounds l.likely
-
-abbrev pub decreases-loop-j : goal.decreases-loop-j
-decreases-loop-j l = l.j

@@ -15,7 +15,6 @@ use Rattle.one_row.proofs.ucb_only.Goals as goal
 
 pub loop-j-init : goal.loop-j-init
 loop-j-init c = record {
-  above = omega arith;
   charged = charged-none 2 _ c.requires.1;
   most = c.none-most.ensures ∙ hit-none (λ k. size (ucb_on c.args.board.now k)) (c.args.i + 1);
 }
@@ -30,9 +29,8 @@ loop-j-preserved c =
     let F : ℕ → ℕ = λ k. size (ucb_on a.board.now k) in
     let own = c.size-reloads.ensures.count ∙ ap (λ (u : CacheSet). size (members u)) c.at.ensures in
     let most : c.larger-most.result ≡ largest_from (j + 1) F (between (j + 1) (a.i + 1)) =
-    rw last (c.larger-most.ensures ∙ hit-front F c.loop-j.j (a.i + 1) _ _ (omega arith) own h.most) in
+    c.larger-most.ensures ∙ hit-front F (j + 1) (a.i + 1) _ _ (omega arith) own (rw (← last) at h.most) in
     record {
-      above = omega arith;
       charged = rw c.keep_hit.ensures
           (hit-in-front 2 a.i c.loop-j.j j (omega arith) (omega arith) (omega arith) h.charged _
           (ap Victim (hit_same c.loop-j.row j _ (omega (arith, h.charged.long)) ∙ most ∙ largest-from F (j + 1) (a.i + 1) (omega arith))));

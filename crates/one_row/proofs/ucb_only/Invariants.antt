@@ -1,5 +1,5 @@
 -- `one_row::ucb_only`: the charges from j on are in the row, and `most` is the largest UCB below j. Assumes nothing.
-use Rattle.std.proofs.Common.{◌≡◌, ◌+◌, ◌≤◌}
+use Rattle.std.proofs.Common.{◌≡◌, ◌+◌}
 use Rattle.sets.specs.Sets.{size}
 use Rattle.demand.specs.Positions.{between}
 use Rattle.board.specs.Board.{ucb_on}
@@ -9,10 +9,6 @@ use Rattle.one_row.proofs.ucb_only.Given as goal
 
 abbrev pub invariant-loop-j : goal.invariant-loop-j
 invariant-loop-j l = record {
-  above : l.j ≤ l.i;
   charged : Charged l.board 2 l.i l.j l.row;
   most : l.most ≡ largest_from (l.j + 1) (λ k. size (ucb_on l.board k)) (between (l.j + 1) (l.i + 1));
 }
-
-abbrev pub decreases-loop-j : goal.decreases-loop-j
-decreases-loop-j l = l.j

@@ -14,7 +14,6 @@ use Rattle.one_row.proofs.ucb_union.Goals as goal
 
 pub loop-j-init : goal.loop-j-init
 loop-j-init c = record {
-  above = omega arith;
   charged = charged-none 3 _ c.requires.1;
   all = members-empty ∙ union-none (ucb_on c.args.board.now) (c.args.i + 1);
 }
@@ -27,10 +26,9 @@ loop-j-preserved c =
     let j = c.loop-j.j - 1 in
     let last : j + 1 ≡ c.loop-j.j = omega arith in
     let all : members c.union-all.result ≡ union_of (ucb_on a.board.now) (between (j + 1) (a.i + 1)) =
-    rw last (c.union-all.ensures ∙ union-front (ucb_on a.board.now) c.loop-j.j (a.i + 1) _ _ (omega arith) (ap members c.at.ensures) h.all) in
+    c.union-all.ensures ∙ union-front (ucb_on a.board.now) (j + 1) (a.i + 1) _ _ (omega arith) (ap members c.at.ensures) (rw (← last) at h.all) in
     let shared = c.size.ensures.count ∙ ap size (c.intersection.ensures ∙ ap₂ ◌∩◌ all (ap members c.at-evictor.ensures)) in
     record {
-      above = omega arith;
       charged = count-in-front 3 a.i c.loop-j.j j (omega arith) (omega arith) (omega arith) h.charged _
           (ap no_victim (get_or-set_same c.loop-j.row j _ 0 (omega (arith, h.charged.long)) ∙ shared));
       all = all;

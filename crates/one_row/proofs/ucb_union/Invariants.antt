@@ -1,5 +1,5 @@
 -- `one_row::ucb_union`: the charges from j on are in the row, and `all` is the union of the UCBs below j. Assumes nothing.
-use Rattle.std.proofs.Common.{◌≡◌, ◌+◌, ◌≤◌}
+use Rattle.std.proofs.Common.{◌≡◌, ◌+◌}
 use Rattle.sets.specs.Words.{members}
 use Rattle.demand.specs.Positions.{between}
 use Rattle.board.specs.Board.{ucb_on}
@@ -9,10 +9,6 @@ use Rattle.one_row.proofs.ucb_union.Given as goal
 
 abbrev pub invariant-loop-j : goal.invariant-loop-j
 invariant-loop-j l = record {
-  above : l.j ≤ l.i;
   charged : Charged l.board 3 l.i l.j l.row;
   all : members l.all ≡ union_of (ucb_on l.board) (between (l.j + 1) (l.i + 1));
 }
-
-abbrev pub decreases-loop-j : goal.decreases-loop-j
-decreases-loop-j l = l.j
