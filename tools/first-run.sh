@@ -15,33 +15,6 @@ logs=$root/target/log
 log=$logs/$called.log
 ours='' # the process that proves, while there is one
 
-# The crates that one needs, itself among them, in the order in which rt proves them: each after those that it uses, by levels. crates.txt
-# has others beside.
-plan() {
-    awk -v last="$1" '
-        function visit(name,    uses, n, k) {
-            if (!(name in line) || (name in level)) return
-            level[name] = 0
-            n = split(line[name], uses)
-            for (k = 1; k <= n; k++) {
-                visit(uses[k])
-                if ((uses[k] in line) && level[name] <= level[uses[k]]) level[name] = level[uses[k]] + 1
-            }
-            if (highest < level[name]) highest = level[name]
-            order[++found] = name
-        }
-        { sub(/#.*/, "") }
-        (at = index($0, ":")) {
-            split(substr($0, 1, at - 1), words)
-            name = words[1] # without what kind of crate it is
-            line[name] = substr($0, at + 1)
-        }
-        END {
-            visit(last)
-            for (l = 0; l <= highest; l++) for (k = 1; k <= found; k++) if (level[order[k]] == l) print order[k]
-        }' "$root/crates.txt"
-}
-
 # Says which proofs have begun since it last looked: rt tells of a crate as it starts the prover on it.
 tell() {
     opened=$(sed -n 's/^rt: chose --jobs [0-9]* for //p' "$log" | tr '\n' ' ')
@@ -74,7 +47,7 @@ undo() { :; }
 
 # Runs a command that has rt prove a crate ($1) and all that this one needs, and tells meanwhile how far it is.
 prove() {
-    crates=$(plan "$1")
+    crates=$("$root/tools/plan.sh" "$1" | sed 's/ .*//')
     shift
     # shellcheck disable=SC2086
     total=$(set -- $crates && echo $#)

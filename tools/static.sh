@@ -1,9 +1,10 @@
 #!/bin/sh
-# static.sh CRATE [NAME]: proves and builds a static library of crates.txt and puts it into target/staticlib, as libNAME.a (libCRATE.a where no NAME is given).
+# static.sh CRATE [NAME]: proves a static library of crates.txt (prove.sh), builds it, and puts it into target/staticlib, as libNAME.a (libCRATE.a where no NAME is given).
 set -eu
 root=$(cd "$(dirname "$0")/.." && pwd -P)
 crate=$1
 to=$root/target/staticlib
 mkdir -p "$to"
+"$root/tools/prove.sh" "$crate"
 (cd "$root/crates/$crate" && rt lib)
 cp "$root/crates/$crate/out/lib$crate.a" "$to/lib${2:-$crate}.a"

@@ -1,105 +1,127 @@
-// The response of a task under a method. specs/Analysis.antt says what a response is. A table's numbers and sets are put on a board once, and
-// that is lent: a table is long to copy.
+// The response of a task under a method. specs/Analysis.antt says what a response is.
 #![tactic(auto)]
 
-ghost use Rattle.std.specs.Prelude.{◌≡◌, ◌+◌, ◌≤◌, take};
+ghost use Rattle.std.specs.Prelude.{◌≡◌, ◌<◌, ◌≤◌, length};
 ghost use Rattle.demand.specs.Demand.{demand_of};
 ghost use Rattle.demand.specs.Terms.{term_in, Handed};
-ghost use Rattle.demand.specs.Least.{least_of, told_of};
-ghost use Rattle.accesses.specs.Accesses.{Listed};
-ghost use Rattle.board.specs.Board.{limit_on, Lent};
+ghost use Rattle.demand.specs.Least.{least_of};
+ghost use Rattle.table.specs.Accepted.{AcceptedTable};
+ghost use Rattle.table.specs.Tasks.{at};
+ghost use Rattle.tasks.specs.Tasks.{limit_of};
 ghost use Rattle.one_row.specs.Row.{Charged};
-ghost use Rattle.analysis.specs.Analysis.{blockers_of, least_on_under, latest_on, with_combined, response_of, Blocks, AllBlock, Answerable};
+ghost use Rattle.blocked_row.specs.BlockedRow.{ChargedUnder};
+ghost use Rattle.analysis.specs.Analysis.{least_under, answer_of, response_of, method_of, Blocks};
 
-use accesses::{Access, Blockers};
-use board::{LIMITS, WORKS};
-use demand::Response;
-use one_row::ROW;
+use accesses::Access;
+use costs::{Charge, Single};
+use demand::{Response, Term};
 use table::Table;
 use units::Ticks;
 
-// The smallest time in ticks up to a limit that equals the demand of the task at i of a board, with so much work of its own and blocking, by a list
-// of the weights of those above it; 0 for none.
-fn by_weights(board: &[u64], own: Ticks, weights: &[u64], i: usize, limit: Ticks) -> u64
-    requires { Lent board.now (i + 1) × Handed own.0 board.now weights.now i limit.0 }
-    ensures { told_of result ≡ least_of (demand_of own.0 (term_in board.now weights.now) i) limit.0 }
-{
-    let mut counts = [1u64; 32];
-    let mut ends = response::first_ends(board, i);
-    response::least(own, board, weights, i, limit, &mut counts, &mut ends)
+// The six methods.
+#[derive(Clone, Copy)]
+pub enum Method {
+    Of(Single),
+    Combined,
 }
 
-// The same while an access blocks the task, under one of the methods 0 to 4, of which `row` has the charges without the access.
-pub fn least_under(
-    board: &[u64],
-    method: u64,
+impl Method {
+    // The method that a caller names by its number.
+    pub fn from_number(number: u64) -> Option<Method>
+        ensures { result ≡ method_of number }
+    {
+        match number {
+            0 => Some(Method::Of(Single::None)),
+            1 => Some(Method::Of(Single::EcbOnly)),
+            2 => Some(Method::Of(Single::UcbOnly)),
+            3 => Some(Method::Of(Single::UcbUnion)),
+            4 => Some(Method::Of(Single::EcbUnion)),
+            5 => Some(Method::Combined),
+            _ => None,
+        }
+    }
+}
+
+// The smallest time up to a limit that equals its demand, for so much work of the task's own and blocking, under the terms of those above it.
+fn by_terms(own: Ticks, terms: &[Term], limit: Ticks) -> Response
+    requires { Handed own.0 terms.now limit.0 }
+    ensures { result ≡ least_of (demand_of own.0 (term_in terms.now) (length terms.now)) limit.0 }
+{
+    let mut counts = response::firsts(terms);
+    response::least(own, terms, limit, &mut counts)
+}
+
+// The same of the task at i while an access blocks it, by the charges with the access in `row`.
+fn by_charges(
+    table: &Table,
+    method: Single,
     i: usize,
     limit: Ticks,
-    row: &[u64; ROW],
+    row: &[Charge; 32],
     access: Access,
-) -> u64
-    requires { (method ≤ 4) × Lent board.now (i + 1) × (limit.0 ≤ 250000000) × Charged board.now method i 0 row.now × Blocks i access }
-    ensures { told_of result ≡ least_on_under board.now access method i limit.0 }
+) -> Response
+    requires { AcceptedTable table.now × (i < table.now.count) × (limit.0 ≤ 250000000) × ChargedUnder table.now access method i 0 row.now × Blocks i access }
+    ensures { result ≡ least_under table.now access method i limit.0 }
 {
-    let mut joined = *row;
-    blocked_row::join(board, method, i, access, &mut joined);
-    let weights = blocked_row::weights(board, i, &joined);
-    let own = Ticks(board[WORKS + i] + access.lasts.0);
-    by_weights(board, own, &weights, i, limit)
+    let terms = blocked_row::terms(table, i, row);
+    let own = Ticks(table.task(i).work.0 + access.lasts.0);
+    by_terms(own, &terms[..i], limit)
 }
 
-// The latest of these answers over all that may block the task.
-fn latest_within(board: &[u64], method: u64, i: usize, limit: Ticks, blockers: Blockers) -> Response
-    requires { (method ≤ 4) × Lent board.now (i + 1) × (limit.0 ≤ 250000000) × AllBlock i blockers }
-    ensures { result ≡ latest_on board.now (take blockers.count blockers.accesses) method i limit.0 }
+// The same by the charges without the access. Nothing is copied where the access adds nothing to them.
+pub fn least_under(
+    table: &Table,
+    method: Single,
+    i: usize,
+    limit: Ticks,
+    row: &[Charge; 32],
+    access: Access,
+) -> Response
+    requires { AcceptedTable table.now × (i < table.now.count) × (limit.0 ≤ 250000000) × Charged table.now method i 0 row.now × Blocks i access }
+    ensures { result ≡ least_under table.now access method i limit.0 }
 {
-    let row = one_row::charged(board, method, i);
-    let first = blockers.accesses[0];
-    let mut latest = least_under(board, method, i, limit, &row, first);
-    let count = blockers.count;
-    for n in 1..count {
-        let access = blockers.accesses[n];
-        let next = least_under(board, method, i, limit, &row, access);
-        latest = demand::later(latest, next);
+    match method {
+        Single::None | Single::EcbOnly => by_charges(table, method, i, limit, row, access),
+        Single::UcbOnly | Single::UcbUnion | Single::EcbUnion => {
+            let mut joined = *row;
+            blocked_row::join(table, method, i, access, &mut joined);
+            by_charges(table, method, i, limit, &joined, access)
+        }
     }
-    demand::told(latest)
 }
 
-// The answer under one of the methods 0 to 5: within the task's limit. Method 5 is the sooner of the answers of 3 and 4.
-fn respond_on(board: &[u64], method: u64, i: usize, blockers: Blockers) -> Response
-    requires { (method ≤ 5) × Lent board.now (i + 1) × AllBlock i blockers }
-    ensures { result ≡ with_combined (λ m. latest_on board.now (take blockers.count blockers.accesses) m i (limit_on board.now i)) method }
+// The latest of these answers within the task's limit over the accesses that may block it, and where none may, the answer with its B.
+fn latest(table: &Table, method: Single, i: usize) -> Response
+    requires { AcceptedTable table.now × (i < table.now.count) }
+    ensures { result ≡ answer_of table.now method i }
 {
-    let limit = Ticks(board[LIMITS + i]);
-    if method < 5 {
-        return latest_within(board, method, i, limit, blockers);
+    let task = table.task(i);
+    let limit = Ticks(task.deadline.0 - task.jitter.0);
+    let row = one_row::charged(table, method, i);
+    let mut blocked = false;
+    let mut latest = Response::Within(Ticks(0));
+    for n in 0..table.access_count {
+        let access = table.accesses[n];
+        if access.may_block(i) {
+            blocked = true;
+            latest = latest.later(least_under(table, method, i, limit, &row, access));
+        }
     }
-    let third = latest_within(board, 3, i, limit, blockers);
-    let fourth = latest_within(board, 4, i, limit, blockers);
-    demand::combined(third, fourth)
+    if blocked {
+        return latest;
+    }
+    least_under(table, method, i, limit, &row, accesses::plain_access(*task))
 }
 
-// What may block the task at i: the accesses that may, and where none may its B.
-pub fn blockers_at(table: Table, i: usize) -> Blockers
-    requires { Answerable 5 table 0 i }
-    ensures { Listed (blockers_of table i) result }
+// The response of the task at i: under combined the sooner of those of the two unions.
+pub fn respond(table: &Table, method: Method, i: usize) -> Response
+    requires { AcceptedTable table.now × (i < table.now.count) }
+    ensures { result ≡ response_of table.now method i }
 {
-    let task = table.tasks[i];
-    accesses::blockers_of(
-        table.accesses,
-        table.access_count,
-        i,
-        accesses::plain_access(task),
-    )
-}
-
-// The response of the task at i under one of the methods 0 to 5.
-pub fn respond(table: Table, method: u64, i: usize) -> Response
-    requires { Answerable 5 table method i }
-    ensures { result ≡ response_of table method i }
-{
-    let mut board = [0u64; board::PLACES];
-    board::fill(table, i + 1, &mut board);
-    let blockers = blockers_at(table, i);
-    respond_on(&board, method, i, blockers)
+    match method {
+        Method::Of(single) => latest(table, single, i),
+        Method::Combined => {
+            latest(table, Single::UcbUnion, i).sooner(latest(table, Single::EcbUnion, i))
+        }
+    }
 }

@@ -3,23 +3,28 @@
 // is left, no other task is looked at.
 #![tactic(auto)]
 
-ghost use Rattle.std.specs.Prelude.{◌≡◌, min, ◌+◌, ◌≤◌, get_or};
+ghost use Rattle.std.specs.Prelude.{◌≡◌, min, max, ◌≤◌, ◌<◌, length};
 ghost use Rattle.demand.specs.Positions.{front};
-ghost use Rattle.demand.specs.Demand.{demand_of};
+ghost use Rattle.demand.specs.Demand.{term_of, demand_of};
 ghost use Rattle.demand.specs.Terms.{term_in, Handed};
+ghost use Rattle.demand.specs.Least.{least_of};
+ghost use Rattle.response.specs.Counts.{Started};
 ghost use Rattle.readable.specs.Readable.{Readable};
-ghost use Rattle.board.specs.Board.{limit_on, Lent};
+ghost use Rattle.table.specs.Accepted.{AcceptedTable};
+ghost use Rattle.costs.specs.Costs.{term_with};
 ghost use Rattle.one_row.specs.Row.{Charged};
-ghost use Rattle.blocked_row.specs.BlockedRow.{FewReloads};
-ghost use Rattle.analysis.specs.Analysis.{Blocks};
+ghost use Rattle.blocked_row.specs.BlockedRow.{ChargedUnder, FewReloads, term_by};
+ghost use Rattle.analysis.specs.Analysis.{answer_of, response_of, Blocks};
 ghost use Rattle.verdicts.specs.Verdicts.{has_response};
+ghost use Rattle.scaling.specs.Scaling.{scaled_by};
 ghost use Rattle.growth.specs.Growth.{growth_of, Bounds};
-ghost use Rattle.growth.specs.Tried.{scaled_weight, answers_by, StartedAt, answers_under, scaled_latest, answers_on, Accessed, blockers_in, Stretches, FitsUpTo};
+ghost use Rattle.growth.specs.Tried.{answers_under, Stretches, FitsUpTo};
 
 use accesses::Access;
-use board::{BRT, LIMITS, WORKS};
-use demand::JITTERS;
-use one_row::ROW;
+use analysis::Method;
+use costs::{Charge, Single};
+use demand::{Response, Term};
+use response::Count;
 use scaling::scaled_work;
 use table::Table;
 use units::{Reloads, Ticks};
@@ -30,87 +35,112 @@ const MOST_TRIED: u64 = 4000;
 // What C times k may not be above: the longest C, in thousandths.
 const LONGEST: u64 = 250000000000;
 
-// What each task above i asks for at an activation, with C scaled by k, by the charges in a row.
-fn scaled_weights(board: &[u64], i: usize, row: &[u64], k: u64) -> [u64; 32]
-    requires { Stretches board.now (i + 1) k × FewReloads i row.now }
-    ensures { result ≡ front 0 (scaled_weight board.now (λ j. get_or row.now j 0) k) i }
+// What the task at j asks for with C scaled by k, and with so many reloads in its weight.
+fn scaled_term(table: &Table, j: usize, reloads: Reloads, k: u64) -> Term
+    requires { Stretches table.now k × (j < table.now.count) × (reloads.0 ≤ 2048) }
+    ensures { result ≡ term_with (scaled_by k table.now) j reloads.0 }
 {
-    let brt = Ticks(board[BRT]);
-    let mut all = [0u64; 32];
-    for j in 0..i {
-        let work = scaled_work(Ticks(board[WORKS + j]), k);
-        let count = Reloads(row[j]);
-        all[j] = costs::weight(work, count, brt).0;
+    let task = table.task(j);
+    let work = scaled_work(task.work, k);
+    Term {
+        period: task.period,
+        jitter: task.jitter,
+        weight: Ticks(work.0 + reloads.time(table.brt).0),
     }
-    all
 }
 
-// The demand of the task at i at its limit.
-fn demand_at_limit(board: &[u64], own: u64, weights: &[u64], i: usize) -> u64
-    requires { Lent board.now (i + 1) × Handed own board.now weights.now i (limit_on board.now i) }
-    ensures { result ≡ demand_of own (term_in board.now weights.now) i (limit_on board.now i) }
+// What each task above i asks for, by the charges in a row.
+fn scaled_terms(table: &Table, i: usize, row: &[Charge; 32], k: u64) -> [Term; 32]
+    requires { Stretches table.now k × (i < table.now.count) × FewReloads i row.now }
+    ensures { result ≡ front (term_of 0 0 0) (term_by (scaled_by k table.now) row.now) i }
 {
-    let limit = board[LIMITS + i];
+    let mut terms = [Term::NONE; 32];
+    for j in 0..i {
+        terms[j] = scaled_term(table, j, row[j].count(), k);
+    }
+    terms
+}
+
+// The demand at `r` under these terms, before they are listed.
+fn demand_by_row(table: &Table, i: usize, row: &[Charge; 32], own: u64, k: u64, r: u64) -> u64
+    requires { Stretches table.now k × (i < table.now.count) × FewReloads i row.now × (own ≤ 500000000) × (r ≤ 250000000) }
+    ensures { result ≡ demand_of own (term_by (scaled_by k table.now) row.now) i r }
+{
     let mut demand = own;
     for j in 0..i {
-        let period = board[j];
-        let activations = (limit + board[JITTERS + j] + (period - 1)) / period;
-        demand += activations * weights[j];
+        demand += scaled_term(table, j, row[j].count(), k).work(r);
     }
     demand
 }
 
-// Whether the task at i has a response at k while an access blocks it, by the charges in a row. It has one where its limit is no less than the demand
-// there, as that of most tasks is; where the limit is less there may be one before it, which is searched for from `counts` and `ends` on.
-fn answers(
-    board: &[u64],
-    i: usize,
-    row: &[u64],
-    access: Access,
-    k: u64,
-    counts: &mut [u64; 32],
-    ends: &mut [u64; 32],
-) -> bool
-    requires { (1 ≤ k) × Stretches board.now (i + 1) k × FewReloads i row.now × Blocks i access × StartedAt board.now row.now access i k counts.old ends.old }
-    ensures value { result ≡ answers_by board.now row.now access i k }
-    ensures started_at { StartedAt board.now row.now access i k counts.new ends.new }
+// The demand at `r`.
+fn demand_at(own: u64, terms: &[Term], r: u64) -> u64
+    requires { Handed own terms.now r }
+    ensures { result ≡ demand_of own (term_in terms.now) (length terms.now) r }
 {
-    let weights = scaled_weights(board, i, row, k);
-    let work = scaled_work(Ticks(board[WORKS + i]), k);
-    let own = Ticks(work.0 + access.lasts.0);
-    let limit = Ticks(board[LIMITS + i]);
-    if demand_at_limit(board, own.0, &weights, i) <= limit.0 {
-        return true;
+    let mut demand = own;
+    for term in terms {
+        demand += term.work(r);
     }
-    0 < response::least(own, board, &weights, i, limit, counts, ends)
+    demand
 }
 
-// The greatest k up to `most` at which the task at i has a response while an access blocks it. What is searched out at a k where it has one is what a greater
-// k is searched from.
-fn bisected(board: &[u64], i: usize, row: &[u64], access: Access, most: u64) -> u64
-    requires { Stretches board.now (i + 1) most × FewReloads i row.now × Blocks i access }
-    ensures { Bounds (answers_by board.now row.now access i) most result }
+// Whether there is a response within a limit. There is one where the limit is no less than the demand there, as that of most tasks is; where the limit is less
+// there may be one before it, which is searched for from `counts` on.
+fn responds(own: Ticks, terms: &[Term], limit: Ticks, counts: &mut [Count]) -> bool
+    requires { Handed own.0 terms.now limit.0 × Started own.0 (term_in terms.now) (length terms.now) counts.old }
+    ensures value { result ≡ has_response (least_of (demand_of own.0 (term_in terms.now) (length terms.now)) limit.0) }
+    ensures started { Started own.0 (term_in terms.now) (length terms.now) counts.new }
+{
+    if demand_at(own.0, terms, limit.0) <= limit.0 {
+        return true;
+    }
+    match response::least(own, terms, limit, counts) {
+        Response::Within(_) => true,
+        Response::Unschedulable => false,
+    }
+}
+
+// The greatest k up to `most` at which the task at i has a response while an access blocks it, by the charges with the access in `row`. Most tasks have one
+// at `most`, and no search is begun for them. What is searched out at a k where there is a response is what a greater k is searched from.
+fn by_charges(
+    table: &Table,
+    method: Single,
+    i: usize,
+    row: &[Charge; 32],
+    access: Access,
+    most: u64,
+) -> u64
+    requires { Stretches table.now most × (i < table.now.count) × ChargedUnder table.now access method i 0 row.now × Blocks i access }
+    ensures { Bounds (answers_under table.now access method i) most result }
 {
     if most == 0 {
         return 0;
     }
-    let mut counts = [1u64; 32];
-    let mut ends = response::first_ends(board, i);
+    let task = table.task(i);
+    let limit = Ticks(task.deadline.0 - task.jitter.0);
+    let work = scaled_work(task.work, most);
+    let own = Ticks(work.0 + access.lasts.0);
+    if demand_by_row(table, i, row, own.0, most, limit.0) <= limit.0 {
+        return most;
+    }
+    let terms = scaled_terms(table, i, row, most);
+    let mut counts = response::firsts(&terms[..i]);
     let mut last = counts;
-    let mut last_ends = ends;
-    if answers(board, i, row, access, most, &mut last, &mut last_ends) {
+    if responds(own, &terms[..i], limit, &mut last) {
         return most;
     }
     let mut low: u64 = 0;
     let mut high = most;
     while low + 1 < high {
         let middle = (low + high) / 2;
+        let work = scaled_work(task.work, middle);
+        let terms = scaled_terms(table, i, row, middle);
         let mut next = counts;
-        let mut next_ends = ends;
-        if answers(board, i, row, access, middle, &mut next, &mut next_ends) {
+        let own = Ticks(work.0 + access.lasts.0);
+        if responds(own, &terms[..i], limit, &mut next) {
             low = middle;
             counts = next;
-            ends = next_ends;
         } else {
             high = middle;
         }
@@ -118,68 +148,71 @@ fn bisected(board: &[u64], i: usize, row: &[u64], access: Access, most: u64) -> 
     low
 }
 
-// The greatest such k under one of the methods 0 to 4, of which `row` has the charges without the access.
-fn under(board: &[u64], method: u64, i: usize, row: &[u64; ROW], access: Access, most: u64) -> u64
-    requires { (method ≤ 4) × Stretches board.now (i + 1) most × Charged board.now method i 0 row.now × Blocks i access }
-    ensures { Bounds (answers_under board.now access method i) most result }
-{
-    let mut joined = *row;
-    blocked_row::join(board, method, i, access, &mut joined);
-    bisected(board, i, &joined, access, most)
-}
-
-// The greatest k up to `most` at which the task at i has a response whichever of the first `listed` accesses blocks it that may, and where none may with its
-// B, which is `plain`.
-fn over_blockers(
-    board: &[u64],
-    method: u64,
+// The same by the charges without the access. Nothing is copied where the access adds nothing to them.
+fn under(
+    table: &Table,
+    method: Single,
     i: usize,
-    accesses: [Access; 32],
-    listed: usize,
-    plain: Access,
+    row: &[Charge; 32],
+    access: Access,
     most: u64,
 ) -> u64
-    requires { (method ≤ 4) × Stretches board.now (i + 1) most × Accessed i listed accesses plain }
-    ensures { Bounds (λ k. has_response (scaled_latest board.now (blockers_in i listed accesses plain) method i k)) most result }
+    requires { Stretches table.now most × (i < table.now.count) × Charged table.now method i 0 row.now × Blocks i access }
+    ensures { Bounds (answers_under table.now access method i) most result }
 {
-    let row = one_row::charged(board, method, i);
-    let mut left = most;
-    let mut blocked: u64 = 0;
-    for n in 0..listed {
-        let access = accesses[n];
-        if access.may_block(i) {
-            left = under(board, method, i, &row, access, left);
-            blocked += 1;
+    match method {
+        Single::None | Single::EcbOnly => by_charges(table, method, i, row, access, most),
+        Single::UcbOnly | Single::UcbUnion | Single::EcbUnion => {
+            let mut joined = *row;
+            blocked_row::join(table, method, i, access, &mut joined);
+            by_charges(table, method, i, &joined, access, most)
         }
     }
-    if blocked == 0 {
-        return under(board, method, i, &row, plain, left);
-    }
-    left
 }
 
-// The greatest such k under one of the methods 0 to 5. By combined a task has a response where it has one by either union.
-fn by_method(
-    board: &[u64],
-    method: u64,
-    i: usize,
-    accesses: [Access; 32],
-    listed: usize,
-    plain: Access,
-    most: u64,
-) -> u64
-    requires { (method ≤ 5) × Stretches board.now (i + 1) most × Accessed i listed accesses plain }
-    ensures { Bounds (answers_on board.now (blockers_in i listed accesses plain) method i) most result }
+// The greatest k up to `most` at which the task at i has a response whichever access blocks it that may, and where none may with its B.
+fn over_blockers(table: &Table, method: Single, i: usize, most: u64) -> u64
+    requires { Stretches table.now most × (i < table.now.count) }
+    ensures { Bounds (λ k. has_response (answer_of (scaled_by k table.now) method i)) most result }
 {
-    if method < 5 {
-        return over_blockers(board, method, i, accesses, listed, plain, most);
+    let row = one_row::charged(table, method, i);
+    let mut left = most;
+    let mut blocked = false;
+    for n in 0..table.access_count {
+        let access = table.accesses[n];
+        if access.may_block(i) {
+            blocked = true;
+            left = under(table, method, i, &row, access, left);
+        }
     }
-    let fourth = over_blockers(board, 4, i, accesses, listed, plain, most);
-    if fourth == most {
-        return most;
+    if blocked {
+        return left;
     }
-    let third = over_blockers(board, 3, i, accesses, listed, plain, most);
-    if third < fourth { fourth } else { third }
+    let plain = accesses::plain_access(*table.task(i));
+    under(table, method, i, &row, plain, left)
+}
+
+fn larger(a: u64, b: u64) -> u64
+    ensures { result ≡ max a b }
+{
+    if a < b { b } else { a }
+}
+
+// The greatest such k under a method. By combined a task has a response where it has one by either union.
+fn by_method(table: &Table, method: Method, i: usize, most: u64) -> u64
+    requires { Stretches table.now most × (i < table.now.count) }
+    ensures { Bounds (λ k. has_response (response_of (scaled_by k table.now) method i)) most result }
+{
+    match method {
+        Method::Of(single) => over_blockers(table, single, i, most),
+        Method::Combined => {
+            let ecb_union = over_blockers(table, Single::EcbUnion, i, most);
+            if ecb_union == most {
+                return most;
+            }
+            larger(ecb_union, over_blockers(table, Single::UcbUnion, i, most))
+        }
+    }
 }
 
 fn smaller(a: u64, b: u64) -> u64
@@ -188,38 +221,29 @@ fn smaller(a: u64, b: u64) -> u64
     if a < b { a } else { b }
 }
 
-// The greatest k up to 4,000 by which each of the first `count` C may be scaled.
-fn fits_up_to(board: &[u64], count: usize) -> u64
-    requires { Lent board.now count }
-    ensures { FitsUpTo board.now count result }
+// The greatest k up to 4,000 by which each C may be scaled.
+fn fits_up_to(table: &Table) -> u64
+    requires { AcceptedTable table.now }
+    ensures { FitsUpTo table.now table.now.count result }
 {
     let mut most = MOST_TRIED;
-    for j in 0..count {
-        most = smaller(most, LONGEST / board[WORKS + j]);
+    for j in 0..table.count {
+        most = smaller(most, LONGEST / table.task(j).work.0);
     }
     most
 }
 
-// The growth that is left of a table under one of the methods 0 to 5.
-pub fn growth(table: Table, method: u64) -> u64
-    requires { (method ≤ 5) × Readable table }
-    ensures { result ≡ growth_of method table }
+// The growth that is left of a table under a method.
+pub fn growth(table: &Table, method: Method) -> u64
+    requires { Readable table.now }
+    ensures { result ≡ growth_of method table.now }
 {
-    let count = table.count;
-    let accesses = table.accesses;
-    let listed = table.access_count;
-    let mut board = [0u64; board::PLACES];
-    board::fill(table, count, &mut board);
-    let mut left = fits_up_to(&board, count);
-    let mut i = count;
-    while 0 < i {
+    let mut left = fits_up_to(table);
+    for i in (0..table.count).rev() {
         if left == 0 {
             return 0;
         }
-        i -= 1;
-        let task = table.tasks[i];
-        let plain = accesses::plain_access(task);
-        left = by_method(&board, method, i, accesses, listed, plain, left);
+        left = by_method(table, method, i, left);
     }
     left
 }

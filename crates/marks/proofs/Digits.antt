@@ -3,7 +3,6 @@ use Prim.Native.Nat.{ℕ, zero, suc, ◌+◌, ◌-◌, ◌*◌, ◌/◌, ◌%◌
 use mathlib.Core.Path.{◌≡◌, refl, sym, ap, ap₂, ◌∙◌}
 use mathlib.Core.List.{List, [], ◌∷◌, ◌++◌, append_assoc, append-nil}
 use native.Mathlib.Nat.{add-zero, sub-zero, sub-add-eq, div-one, mul_assoc}
-use native.Mathlib.Numerals.{add-one}
 use native.Mathlib.Decide.{dec_le}
 use native.Mathlib.Omega.{arith}
 use lib.Dec.{lit<}
@@ -12,20 +11,13 @@ use lib.Pow.{pow-add, shr-shr, high}
 use Rattle.sets.specs.declared.CacheSet.{CacheSet}
 use Rattle.sets.specs.Words.{number_of}
 use Rattle.sets.proofs.WordLaws.{WordsInRange}
-use Rattle.marks.specs.Marks.{hex_byte, hex_digits, marks_text, bits_in}
+use Rattle.writer.specs.Text.{hex_byte, hex_digits}
+use Rattle.marks.specs.Marks.{marks_text, bits_in}
 
 pub digits_long : (k n : ℕ) → length (hex_digits k n) ≡ k
 unfolding hex_digits
 digits_long zero n = refl
 digits_long (suc k) n = rw length-append (omega (arith, digits_long k (n / 16)))
-
--- one digit more at the end, of a number of which the digits before are written
-pub digits_more : (k n j : ℕ) → hex_digits k (n / 2 ^ (4 * (j + 1))) ++ (hex_byte (n / 2 ^ (4 * j) % 16) ∷ []) ≡ hex_digits (k + 1) (n / 2 ^ (4 * j))
-unfolding hex_digits
-digits_more k n j = ap (λ (x : ℕ). hex_digits k x ++ (hex_byte (n / 2 ^ (4 * j) % 16) ∷ [])) up ∙ rw (add-one k)
-  where
-    up : n / 2 ^ (4 * (j + 1)) ≡ n / 2 ^ (4 * j) / 16
-    up = let e : 4 * (j + 1) ≡ 4 * j + 4 = omega arith in rw e (sym (shr-shr n (4 * j) 4))
 
 -- ---- of a number that is cut in two
 

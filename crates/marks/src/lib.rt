@@ -1,39 +1,13 @@
 // Sets of cache sets as the hex digits of a field. specs/Marks.antt says which digits, and when a field can hold a set.
 #![tactic(auto)]
 
-ghost use Rattle.std.specs.Prelude.{◌≡◌, ◌+◌, ◌/◌, ◌^◌, ◌≤◌, ◌<◌, ltb, length};
-ghost use Rattle.writer.specs.Wrote.{Wrote};
-ghost use Rattle.marks.specs.Marks.{hex_byte, hex_digits, marks_text, bits_in, word_list, marks_fit};
+ghost use Rattle.std.specs.Prelude.{◌≡◌, ◌+◌, ◌/◌, ◌^◌, ◌≤◌, ◌<◌, ltb, ◌++◌, length};
+ghost use Rattle.writer.specs.Text.{after_tab};
+ghost use Rattle.writer.specs.declared.TheConstants.{ROOM};
+ghost use Rattle.marks.specs.Marks.{marks_text, bits_in, word_list, marks_fit};
 
 use sets::CacheSet;
-use writer::put_byte;
-
-#[tactic(auto, unfolding(crate::specs::Marks::hex_byte))]
-fn hex_byte(digit: u64) -> u8
-    requires { digit < 16 }
-    ensures { result ≡ hex_byte digit }
-{
-    if digit < 10 {
-        b'0' + digit as u8
-    } else {
-        b'a' - 10 + digit as u8
-    }
-}
-
-// The lowest digits of a word, so many of them.
-fn put_word(out: &mut [u8], at: usize, word: u64, digits: usize) -> usize
-    requires digits_in_bounds { at + digits ≤ length out.old }
-    requires digits_bound { digits ≤ 16 }
-    ensures { Wrote out.old at (hex_digits digits word) out.new result × (result ≡ at + digits) }
-{
-    let mut next = at;
-    let mut below = digits;
-    while 0 < below {
-        below -= 1;
-        next = put_byte(out, next, hex_byte((word >> 4 * below) % 16));
-    }
-    next
-}
+use writer::Draft;
 
 // How many of so many cache sets have their bit in word k.
 #[tactic(auto, unfolding(crate::specs::Marks::bits_in))]
@@ -59,18 +33,18 @@ fn words_of(marks: CacheSet) -> [u64; 4]
     words
 }
 
-// The field of a set, the most significant word first. A word that has no cache set has no digit.
-#[tactic(auto, using(crate::proofs::Digits::words_long))]
-pub fn put_marks(out: &mut [u8], at: usize, sets: u64, marks: CacheSet) -> usize
+// A tab and the field of a set, the most significant word first. A word that has no cache set has no digit.
+pub fn write_marks(draft: &mut Draft, sets: u64, marks: CacheSet)
     requires sets_bound { sets ≤ 256 }
-    requires sets_in_bounds { at + sets / 4 ≤ length out.old }
-    ensures { Wrote out.old at (marks_text sets marks) out.new result }
+    requires room { length draft.old + length (after_tab (marks_text sets marks)) ≤ ROOM }
+    ensures { draft.new ≡ draft.old ++ after_tab (marks_text sets marks) }
 {
     let words = words_of(marks);
-    let below_w3 = put_word(out, at, words[3], bits_in(sets, 3) / 4);
-    let below_w2 = put_word(out, below_w3, words[2], bits_in(sets, 2) / 4);
-    let below_w1 = put_word(out, below_w2, words[1], bits_in(sets, 1) / 4);
-    put_word(out, below_w1, words[0], bits_in(sets, 0) / 4)
+    draft.push(b'\t');
+    draft.hex(words[3], bits_in(sets, 3) / 4);
+    draft.hex(words[2], bits_in(sets, 2) / 4);
+    draft.hex(words[1], bits_in(sets, 1) / 4);
+    draft.hex(words[0], bits_in(sets, 0) / 4);
 }
 
 // Whether a word has no bit beyond its lowest ones, so many of them.

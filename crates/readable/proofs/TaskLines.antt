@@ -28,8 +28,9 @@ use Rattle.faults.proofs.LineLaws.{HeadHolds, TaskHolds, ranges, order}
 use Rattle.table.specs.declared.Table.{Table}
 use Rattle.table.specs.Reading.{head_table}
 use Rattle.writer.specs.Text.{digit_byte, spelled}
-use Rattle.writer.proofs.Spelling.{spelled-low, spelled-high, by_digits}
-use Rattle.marks.specs.Marks.{hex_byte, hex_digits, marks_text, marks_fit}
+use Rattle.writer.proofs.Spelling.{spelled_low, spelled_high, by_digits}
+use Rattle.writer.specs.Text.{hex_byte, hex_digits}
+use Rattle.marks.specs.Marks.{marks_text, marks_fit}
 use Rattle.marks.proofs.Fields.{marks-read, read_fits, read-text}
 use Rattle.table_text.specs.TableText.{time_texts, set_texts}
 use Rattle.readable.specs.Tests.{head_of, fillers, is_filled, line_of_task}
@@ -72,8 +73,8 @@ pub number-plain : (n : ℕ) → Plain (spelled n)
 unfolding every_byte
 number-plain =
     by_digits (λ n. Plain (spelled n))
-    (λ n l. rw (spelled-low n l, lt-ltb 10 (48 + n) (omega arith)))
-    (λ n l ih. rw (spelled-high n l) (plain-append (spelled (n / 10)) (digit_byte (n % 10) ∷ []) ih (rw (lt-ltb 10 (48 + n % 10) (omega arith)))))
+    (λ n l. rw (spelled_low n l, lt-ltb 10 (48 + n) (omega arith)))
+    (λ n l ih. rw (spelled_high n l) (plain-append (spelled (n / 10)) (digit_byte (n % 10) ∷ []) ih (rw (lt-ltb 10 (48 + n % 10) (omega arith)))))
 
 hex-byte-plain : (d : ℕ) → ltb 10 (hex_byte d) ≡ true
 unfolding hex_byte

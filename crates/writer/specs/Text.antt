@@ -1,6 +1,5 @@
 -- The text of a number, of a field and of a line. Assumes nothing.
-use Rattle.std.specs.Prelude.{ℕ, zero, suc, ◌+◌, ◌/◌, ◌%◌, true, false, ltb}
-use mathlib.Core.List.{List, [], ◌∷◌, ◌++◌, flat_map}
+use Rattle.std.specs.Prelude.{ℕ, zero, suc, ◌+◌, ◌/◌, ◌%◌, Bool, true, false, cond, ltb, List, [], ◌∷◌, ◌++◌, flat_map}
 
 -- the byte of a digit
 abbrev pub digit_byte : ℕ → ℕ
@@ -17,6 +16,15 @@ unfoldable pub spelled : ℕ → List ℕ
 unfolding digits_of
 spelled n = digits_of (suc n) n
 
+-- the byte of a hex digit: `0` to `9` are 48 to 57, and `a` to `f` are 97 to 102
+unfoldable pub hex_byte : ℕ → ℕ
+hex_byte d = cond (ltb d 10) (48 + d) (87 + d)
+
+-- the lowest k hex digits of a number, the most significant first
+unfoldable pub hex_digits : ℕ → ℕ → List ℕ
+hex_digits zero n = []
+hex_digits (suc k) n = hex_digits k (n / 16) ++ (hex_byte (n % 16) ∷ [])
+
 -- a field after the first: a tab, and its text
 abbrev pub after_tab : List ℕ → List ℕ
 after_tab text = 9 ∷ text
@@ -24,3 +32,8 @@ after_tab text = 9 ∷ text
 -- a line: its first field, each other field after a tab, and LF
 abbrev pub line_of : List ℕ → List (List ℕ) → List ℕ
 line_of first others = first ++ flat_map after_tab others ++ (10 ∷ [])
+
+-- `yes` or `no`
+abbrev pub yes_no : Bool → List ℕ
+yes_no true = 121 ∷ 101 ∷ 115 ∷ []
+yes_no false = 110 ∷ 111 ∷ []

@@ -1,0 +1,73 @@
+-- The lines of an explanation add up to the need, and the need is the response where it is within the limit. Assumes nothing.
+use Rattle.std.proofs.Common.{ℕ, ◌≤◌, ◌<◌, List, ◌≡◌, sym, ap, ◌∙◌, arith}
+use Rattle.units.specs.declared.Ticks.{Ticks}
+use Rattle.demand.specs.declared.Response.TheVariants.{Within}
+use Rattle.demand.specs.declared.Term.{Term}
+use Rattle.demand.specs.Demand.{work_of}
+use Rattle.demand.specs.Terms.{InRange}
+use Rattle.table.specs.declared.Table.{Table}
+use Rattle.table.specs.Accepted.{AcceptedTable}
+use Rattle.costs.specs.declared.Charge.{Charge}
+use Rattle.costs.specs.Costs.{reloads_in, reloads_with, term_with, term_under}
+use Rattle.costs.proofs.OrderLaws.{term-ranged}
+use Rattle.one_row.specs.Row.{charge_in}
+use Rattle.blocked_row.specs.BlockedRow.{ChargedUnder}
+use Rattle.blocked_row.proofs.JoinLaws.{row-few, row-term}
+use Rattle.analysis.specs.declared.Method.{Method}
+use Rattle.analysis.specs.Analysis.{response_of}
+use Rattle.need.specs.declared.Need.{Need}
+use Rattle.need.specs.Needs.{need_of}
+use Rattle.need.proofs.NeedLaws.{response-needed, need-responds}
+use Rattle.explanation.specs.Explained.{Grounds}
+use Rattle.explanation.proofs.Ranges.{needed}
+use Rattle.explanation.proofs.Truth.{explanation-adds-up}
+use Rattle.laws.specs.declared.explanations.Sum.{Sum}
+use Rattle.laws.specs.declared.explanations.NeedAndResponse.{NeedAndResponse}
+use Rattle.laws.specs.Explanations.{adds_at, sum_of, AddsUp, IsNeededAsAnswered}
+
+-- ---- one line
+
+pub blocked-short : {table : Table} {need : Need} {i : ℕ} → Grounds table need i → need.blocker.lasts.0 ≤ 250000000
+blocked-short g = g.blocker.blocks.lasts
+
+module _ {table : Table} {need : Need} {i : ℕ} (g : Grounds table need i) {row : List Charge} (p : ChargedUnder table need.blocker need.method i 0 row)
+    (j : ℕ) (above : j < i) where
+  pub line-few : reloads_in (charge_in row j) ≤ 2048
+  line-few = (row-few table need.blocker need.method i p).few j above
+
+  line-term : term_with table j (reloads_in (charge_in row j)) ≡ term_under table need.blocker need.method i j
+  line-term = row-term table need.blocker need.method i p j above
+
+  module _ {term : Term} (is : term ≡ term_with table j (reloads_in (charge_in row j))) where
+    pub line-ranged : InRange term
+    line-ranged = rw (is, line-term) (term-ranged table need.blocker need.method i j g.accepted (omega (arith, g.held)))
+
+    pub line-adds : (r w : ℕ) → w ≡ work_of r term → w ≡ adds_at table need i r j
+    unfolding reloads_with
+    line-adds r w e = e ∙ ap (work_of r) (is ∙ line-term)
+
+-- ---- the whole
+
+module _ (table : Table) (accepted : AcceptedTable table) (i : ℕ) (held : i < table.count) (m : Method) where
+  pub explained-grounds : (need : Need) → need ≡ need_of table m i → Grounds table need i
+  explained-grounds need e = record { accepted = accepted; held = held; blocker = rw e (needed table accepted i held m).blocker }
+
+  pub explained-time : (need : Need) (R : Ticks) → need ≡ need_of table m i → need.time ≡ Within R → R.0 ≤ 250000000
+  explained-time need R e f = let q = rw (← e, f) at (needed table accepted i held m).ranged.time in q
+
+  pub adds-up : (r : Sum) → r.need ≡ need_of table m i → ((R : Ticks) → r.need.time ≡ Within R → r.total.0 ≡ sum_of table r.need i R.0) → AddsUp table m i r
+  adds-up r e t = record {
+    need_is = e;
+    total_is = t;
+    adds_up = λ R f.
+        let sum : r.total.0 ≡ R.0 = t R f ∙ rw e (explanation-adds-up table accepted i held m R (rw e at f)) in
+        ap (λ (n : ℕ). record { 0 = n }) sum;
+  }
+
+  pub needed-as-answered : (r : NeedAndResponse) → r.need ≡ need_of table m i → r.response ≡ response_of table m i → IsNeededAsAnswered table m i r
+  needed-as-answered r e f = record {
+    need_is = e;
+    response_is = f;
+    needed = λ R q. rw e (response-needed table accepted i held m R (sym f ∙ q));
+    answered = λ R q h. f ∙ need-responds table accepted i held m R (rw e at q) h;
+  }

@@ -1,0 +1,82 @@
+-- Tables that are no harder, and positions in any order. Assumes nothing.
+use Rattle.std.proofs.Common.{ℕ, zero, suc, ◌+◌, ◌-◌, ◌≤◌, ◌<◌, List, [], ◌∷◌, ◌++◌, length, take, get_or, ◌≡◌, refl, ap, ◌∙◌, arith, eq-eqb, zero-le}
+use Rattle.std.proofs.lemmas.List.{take_more}
+use Rattle.std.proofs.Math.Decide.{dec_lt}
+use Rattle.demand.specs.declared.Response.{Response}
+use Rattle.demand.specs.declared.Response.TheVariants.{Within, Unschedulable}
+use Rattle.demand.specs.declared.Term.{Term}
+use Rattle.demand.specs.Positions.{hp, fold}
+use Rattle.demand.specs.Demand.{work_of}
+use Rattle.demand.specs.Least.{NoLater}
+use Rattle.demand.proofs.PositionLaws.{run_long}
+use Rattle.table.specs.declared.Table.{Table}
+use Rattle.table.specs.Accepted.{AcceptedTable}
+use Rattle.analysis.specs.declared.Method.{Method}
+use Rattle.analysis.specs.Analysis.{response_of}
+use Rattle.analysis.proofs.Orders.{response-place, harder-no-sooner}
+use Rattle.any_order.specs.Permutations.{times_in, EachOnce}
+use Rattle.any_order.specs.Equation.{demand_over}
+use Rattle.any_order.proofs.PermutationLaws.{once-permutation, fold-any-order}
+use Rattle.any_order.proofs.AnyOrder.{sum-unordered}
+use Rattle.laws.specs.declared.orders.TwoResponses.{TwoResponses}
+use Rattle.laws.specs.Orders.{RespondsBy, EasierRespondsFirst}
+
+-- ---- a table that is no harder
+
+responds-by : (a b : Response) → NoLater a b → RespondsBy a b
+unfolding NoLater
+responds-by (Within r) (Within R) h S e = let same : R ≡ S = cc in (r, refl, rw same at h)
+responds-by Unschedulable (Within R) h S e = absurd h
+responds-by a Unschedulable h S e = cc
+
+pub easier-first : (first second : Table) (i k : ℕ) (m : Method) (r : TwoResponses) → AcceptedTable first → AcceptedTable second → i < first.count
+    → r.first ≡ response_of first m i → r.second ≡ response_of second m k → EasierRespondsFirst first i second k m r
+easier-first first second i k m r p q held f s = record {
+  first_is = f;
+  second_is = s;
+  harder = λ h e. responds-by r.first r.second (rw (f, s, ← e) (harder-no-sooner first second h p q m i held));
+  harder_by = λ place h e. responds-by r.first r.second (rw (f, s, ← e) (response-place place first second i h p q held m));
+}
+
+-- ---- positions in any order
+
+times-at : (ks : List ℕ) (i d : ℕ) → i < length ks → 1 ≤ times_in (get_or ks i d) ks
+unfolding times_in
+times-at [] i d h = absurd (omega arith)
+times-at (k ∷ ks) zero d h = rw (eq-eqb k k refl) (omega arith)
+times-at (k ∷ ks) (suc i) d h = omega (arith, times-at ks i d (omega arith))
+
+fold-ones : (z : ℕ) (ks : List ℕ) → fold ◌+◌ z (λ _. 1) ks ≡ z + length ks
+unfolding fold
+fold-ones z [] = omega arith
+fold-ones z (k ∷ ks) = omega (arith, fold-ones (z + 1) ks)
+
+fold-last : (z : ℕ) (F : ℕ → ℕ) (ks : List ℕ) (k : ℕ) → fold ◌+◌ z F (ks ++ k ∷ []) ≡ fold ◌+◌ z F ks + F k
+unfolding fold
+fold-last z F [] k = refl
+fold-last z F (l ∷ ks) k = fold-last (z + F l) F ks k
+
+module _ {n : ℕ} {ks : List ℕ} (once : EachOnce 0 n ks) where
+  -- each is below n
+  pub once-below : (k : ℕ) → k < length ks → get_or ks k 0 < n
+  once-below k h = elim (dec_lt (get_or ks k 0) n) [
+    | yes l ↦ l
+    | no l ↦ absurd (omega (arith, times-at ks k 0 h, once.no_other (get_or ks k 0) (λ a b. l b)))
+  ]
+
+  -- and there are n of them
+  pub once-long : length ks ≡ n
+  once-long =
+      omega (
+        arith,
+        fold-ones 0 ks,
+        fold-ones 0 (hp n),
+        run_long 0 (n - 0),
+        fold-any-order sum-unordered 0 (λ _. 1) ks (hp n) (once-permutation 0 n zero-le ks once),
+      )
+
+-- one term more
+pub demand-over-next : (own : ℕ) (terms : ℕ → Term) (ks : List ℕ) (r k : ℕ) → k < length ks
+    → demand_over own terms (take (k + 1) ks) r ≡ demand_over own terms (take k ks) r + work_of r (terms (get_or ks k 0))
+demand-over-next own terms ks r k h =
+    ap (fold ◌+◌ own (λ j. work_of r (terms j))) (take_more ks k 0 h) ∙ fold-last own (λ j. work_of r (terms j)) (take k ks) (get_or ks k 0)

@@ -1,0 +1,84 @@
+-- What is told of texts. Assumes nothing.
+use Rattle.std.proofs.Common.{ℕ, ◌≤◌, Bool, true, false, List, ◌++◌, length, take, drop, ◌≡◌, refl, sym, ap, ◌∙◌, arith, cond, ltb, Result, Ok, Err}
+use Rattle.std.proofs.lemmas.Bool.{ltb-false, le-ltb}
+use Rattle.std.proofs.Math.Seq.{take_at}
+use Rattle.demand.specs.declared.Response.{Response}
+use Rattle.demand.specs.declared.Response.TheVariants.{Within}
+use Rattle.table.specs.declared.Refusal.{Refusal}
+use Rattle.table.specs.declared.Outcome.{Outcome}
+use Rattle.table.specs.declared.Ruling.{Ruling}
+use Rattle.table.specs.declared.Ruling.TheVariants.{Accepted}
+use Rattle.table.specs.declared.Table.{Table}
+use Rattle.table.specs.Reading.{refusal, read_text, accepted}
+use Rattle.delivery.proofs.Deliveries.{fitting}
+use Rattle.table_text.specs.TableText.{table_text}
+use Rattle.readable.specs.Readable.{Readable}
+use Rattle.readable.proofs.RoundTrip.{written-then-read}
+use Rattle.growth.specs.Growth.{growth_of}
+use Rattle.crpd.specs.Operations.{numbered, answer_to, method_ruling_of, growth_to, TextWritten, TextRewritten, TableWritten}
+use Rattle.crpd.proofs.Easier.{easier-answers}
+use Rattle.laws.specs.declared.texts.TwoAnswers.{TwoAnswers}
+use Rattle.laws.specs.Texts.{ReadsAs, EasierTextRespondsFirst, IsTextGrowth, ComesBack}
+use Rattle.laws.proofs.GrowthLaws.{is-growth}
+
+-- ---- two texts
+
+-- where there is an answer there is such a method
+answered-method : (text : List ℕ) (m i : ℕ) (a : Response) → answer_to text m i ≡ Ok a → m ≤ 5
+unfolding answer_to
+answered-method text m i a e = go (ltb 5 m) _ refl e
+  where
+    go : (t : Bool) (rest : Result Response Refusal) → ltb 5 m ≡ t → cond t (Err (refusal 12)) rest ≡ Ok a → m ≤ 5
+    go true rest l q = let z : ◌≡◌ {A = ℕ} 0 1 = cc in absurd (omega arith)
+    go false rest l q = ltb-false 5 m l
+
+read-accepted : (text : List ℕ) (table : Table) → ReadsAs text table → (read_text text).ruling ≡ Accepted
+read-accepted text table e = ap (λ (o : Outcome). o.ruling) e
+
+pub easier-text-first : (first second : List ℕ) (m i : ℕ) (r : TwoAnswers) → r.first ≡ answer_to first m i → r.second ≡ answer_to second m i
+    → EasierTextRespondsFirst first second m i r
+easier-text-first first second m i r f s = record {
+  first_is = f;
+  second_is = s;
+  harder = λ a b p q h R e.
+      let answered = sym s ∙ e in
+      let w =
+      easier-answers first second (read-accepted first a p) (read-accepted second b q) (rw (p, q) h) m i
+      (answered-method second m i (Within R) answered) R answered in
+      (w.0, f ∙ w.1, w.2);
+}
+
+-- ---- the growth
+
+pub text-growth : (text : List ℕ) (m : ℕ) (r : Result ℕ Refusal) → r ≡ growth_to text m → IsTextGrowth text m r
+unfolding growth_to method_ruling_of
+text-growth text m r e table p h =
+    let k = growth_of (numbered m) table in
+    (k, e ∙ rw (le-ltb _ _ h, p), is-growth table (text, p) (numbered m) k refl)
+
+-- ---- there and back
+
+-- a text that fits is delivered
+fitting-ruled : {v : Ruling} {most : ℕ} {text before after : List ℕ} {r : Result ℕ Refusal} → v ≡ Accepted → most ≤ length before
+    → TextWritten v most text before r after → (r ≡ Ok (length text)) × (after ≡ text ++ drop (length text) before)
+fitting-ruled e h w =
+    let f = fitting (omega (arith, w.short e)) (record { answer = rw e at w.answer-is; buffer = rw e at w.buffer-is }) in
+    (f.0, f.1.buffer-is)
+
+pub comes-back : (text before : List ℕ) (r : Result ℕ Refusal) (after : List ℕ) → 9293 ≤ length before → TextRewritten text before r after → ComesBack text before r after
+comes-back text before r after h w table e = fitting-ruled (read-accepted text table e) h w
+
+module _ (table : Table) (readable : Readable table) (before after : List ℕ) (room : 9293 ≤ length before) where
+  -- it is not refused
+  pub not-refused : (e : Refusal) → TableWritten table before (Err e) after → ⊥
+  not-refused e w =
+      let f = fitting-ruled (w.meant.given readable) room w.written in
+      let z : ◌≡◌ {A = ℕ} 0 1 = cc in
+      omega arith
+
+  -- and what is written reads as the table
+  pub reads-again : (n : ℕ) → TableWritten table before (Ok n) after → read_text (take n after) ≡ accepted table
+  reads-again n w =
+      let f = fitting-ruled (w.meant.given readable) room w.written in
+      let all : n ≡ length (table_text table) = cc in
+      rw (all, f.1, take_at (table_text table) (drop (length (table_text table)) before) (length (table_text table)) refl) (written-then-read table readable)

@@ -1,0 +1,23 @@
+-- `laws::explanations::total` meets its contract. Assumes nothing.
+use Rattle.std.proofs.Common.{◌≡◌, ap, ◌∙◌}
+use Rattle.units.specs.declared.Ticks.{Ticks}
+use Rattle.laws.specs.Explanations.{sum_of}
+use Rattle.laws.proofs.ExplanationLaws.{explained-grounds, explained-time, adds-up}
+use Rattle.laws.proofs.explanations.total.Goals as goal
+
+pub total_of-requires : goal.total_of-requires
+total_of-requires c =
+    let a = c.args in
+    let p = c.requires in (
+      explained-time a.table.now p.0 a.i p.1 a.method _ _ c.explained-need.ensures c.in-Within.is,
+      explained-grounds a.table.now p.0 a.i p.1 a.method _ c.explained-need.ensures,
+    )
+
+pub returns : goal.returns
+returns c =
+    let a = c.args in
+    let p = c.requires in
+    adds-up a.table.now p.0 a.i p.1 a.method _ c.explained-need.ensures
+    (λ R f.
+    let same : c.in-Within.time ≡ R = cc in
+    c.total_of.ensures ∙ ap (λ (t : Ticks). sum_of a.table.now c.explained-need.result a.i t.0) same)

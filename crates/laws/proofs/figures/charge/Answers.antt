@@ -1,0 +1,13 @@
+-- `laws::figures::charge` meets its contract. Assumes nothing.
+use Rattle.std.proofs.Common.{arith, zero-le}
+use Rattle.laws.proofs.FigureLaws.{charge-figured}
+use Rattle.laws.proofs.figures.charge.Goals as goal
+
+pub bounds-row-j : goal.bounds-row-j
+bounds-row-j c = omega (arith, c.requires.0.few)
+
+pub returns : goal.returns
+returns c =
+    let a = c.args in
+    let is = c.charged-row.ensures.each a.j zero-le c.requires.2 in
+    record { value = is; figure = charge-figured a.table.now a.method a.i a.j _ is }

@@ -1,0 +1,6 @@
+-- `laws::figures::response` meets its contract. Assumes nothing.
+use Rattle.laws.proofs.FigureLaws.{figured}
+use Rattle.laws.proofs.figures.response.Goals as goal
+
+pub returns : goal.returns
+returns c = record { value = c.respond.ensures; figure = figured c.args.table.now c.args.method c.args.i _ c.respond.ensures }

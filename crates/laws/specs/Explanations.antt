@@ -1,0 +1,38 @@
+-- What an explanation says is true of the equation. Assumes nothing.
+use Rattle.std.specs.Prelude.{ℕ, ◌+◌, ◌*◌, ◌≤◌, ◌≡◌}
+use Rattle.units.specs.declared.Ticks.{Ticks}
+use Rattle.demand.specs.declared.Response.TheVariants.{Within}
+use Rattle.demand.specs.Positions.{hp, fold}
+use Rattle.tasks.specs.Tasks.{limit_of}
+use Rattle.table.specs.declared.Table.{Table}
+use Rattle.table.specs.Tasks.{at}
+use Rattle.costs.specs.Costs.{reloads_in, charge_under}
+use Rattle.analysis.specs.declared.Method.{Method}
+use Rattle.analysis.specs.Analysis.{response_of}
+use Rattle.need.specs.declared.Need.{Need}
+use Rattle.need.specs.Needs.{need_of}
+use Rattle.explanation.specs.Explanation.{activations_in}
+use Rattle.laws.specs.declared.explanations.Sum.{Sum}
+use Rattle.laws.specs.declared.explanations.NeedAndResponse.{NeedAndResponse}
+
+-- what the line of the task at j adds: its activations in r ticks, each with its work and the time of the reloads that it is charged
+abbrev pub adds_at : Table → Need → ℕ → ℕ → ℕ → ℕ
+adds_at table need i r j =
+    activations_in r (at table j) * ((at table j).work.0 + table.brt.0 * reloads_in (charge_under table need.blocker need.method i j))
+
+-- C of the task at i, how long it is blocked, and what the lines of the tasks above it add
+abbrev pub sum_of : Table → Need → ℕ → ℕ → ℕ
+sum_of table need i r = fold ◌+◌ ((at table i).work.0 + need.blocker.lasts.0) (adds_at table need i r) (hp i)
+
+-- the need; and where it is not beyond, the total is this sum, and the sum is the need
+pub record AddsUp (table : Table) (m : Method) (i : ℕ) (r : Sum) : Type 0 where
+  pub need_is : r.need ≡ need_of table m i
+  pub total_is : (R : Ticks) → r.need.time ≡ Within R → r.total.0 ≡ sum_of table r.need i R.0
+  pub adds_up : (R : Ticks) → r.need.time ≡ Within R → r.total ≡ R
+
+-- the need and the response; where there is a response, it is the need, and within D - J; and a need within D - J is the response
+pub record IsNeededAsAnswered (table : Table) (m : Method) (i : ℕ) (r : NeedAndResponse) : Type 0 where
+  pub need_is : r.need ≡ need_of table m i
+  pub response_is : r.response ≡ response_of table m i
+  pub needed : (R : Ticks) → r.response ≡ Within R → (r.need.time ≡ Within R) × (R.0 ≤ limit_of (at table i))
+  pub answered : (R : Ticks) → r.need.time ≡ Within R → R.0 ≤ limit_of (at table i) → r.response ≡ Within R

@@ -1,0 +1,29 @@
+-- The figures that were worked out by hand, of the tables that they are about. Assumes nothing.
+use Rattle.std.specs.Prelude.{ℕ, ◌≡◌, [], map, All}
+use Rattle.demand.specs.declared.Response.{Response}
+use Rattle.tasks.specs.declared.Task.{Task}
+use Rattle.table.specs.declared.Table.{Table}
+use Rattle.table.specs.Tasks.{tasks_of, accesses_of}
+use Rattle.costs.specs.declared.Single.{Single}
+use Rattle.costs.specs.declared.Charge.{Charge}
+use Rattle.analysis.specs.declared.Method.{Method}
+use Rattle.analysis.specs.Figures.{Figure, figures, ChargeFigure, charge_figures}
+
+-- a task without its name
+abbrev pub unnamed : Task → Task
+unnamed t = record t { name = record { bytes = [] } }
+
+-- the table of a figure, whatever the tasks are called
+pub record IsTableOf (figure table : Table) : Type 0 where
+  pub brt : table.brt ≡ figure.brt
+  pub tasks : map unnamed (tasks_of table) ≡ tasks_of figure
+  pub accesses : accesses_of table ≡ accesses_of figure
+
+-- of all figures those of this table, method and position have the answer r
+abbrev pub IsFigured : Table → Method → ℕ → Response → Type 0
+IsFigured table m i r = All (λ (f : Figure). IsTableOf f.table table → m ≡ f.method → i ≡ f.position → r ≡ f.answer) figures
+
+-- and those of an activation of j have this charge
+abbrev pub IsChargeFigured : Table → Single → ℕ → ℕ → Charge → Type 0
+IsChargeFigured table m i j g =
+    All (λ (f : ChargeFigure). IsTableOf f.table table → m ≡ f.method → i ≡ f.position → j ≡ f.preempting → g ≡ f.charge) charge_figures

@@ -1,0 +1,7 @@
+pub mod Explanations
+pub mod Figures
+pub mod Growths
+pub mod Orders
+pub mod Responses
+pub mod Solutions
+pub mod Texts

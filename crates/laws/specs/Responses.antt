@@ -1,0 +1,45 @@
+-- What a response is, without a word of how it is found. Assumes nothing.
+use Rattle.std.specs.Prelude.{ℕ, ◌+◌, ◌≡◌, ◌⊎◌, All, Any}
+use Rattle.demand.specs.declared.Response.{Response}
+use Rattle.demand.specs.Demand.{demand_of}
+use Rattle.demand.specs.Least.{LeastWithin, NoLater}
+use Rattle.tasks.specs.Tasks.{limit_of}
+use Rattle.accesses.specs.declared.Access.{Access}
+use Rattle.table.specs.declared.Table.{Table}
+use Rattle.table.specs.Tasks.{at}
+use Rattle.costs.specs.declared.Single.{Single}
+use Rattle.costs.specs.declared.Single.TheVariants.{UcbUnion, EcbUnion}
+use Rattle.costs.specs.Costs.{term_under}
+use Rattle.analysis.specs.declared.Method.TheVariants.{Combined}
+use Rattle.analysis.specs.Analysis.{blockers_of, response_of}
+use Rattle.laws.specs.declared.responses.Unions.{Unions}
+
+-- the demand of the task at i while an access blocks it
+abbrev pub demand_while : Table → Single → ℕ → Access → ℕ → ℕ
+demand_while table m i a = demand_of ((at table i).work.0 + a.lasts.0) (term_under table a m i) i
+
+-- r is the smallest number up to D - J that equals it, or says that there is none
+abbrev pub IsLeastWhile : Table → Single → ℕ → Response → Access → Type 0
+IsLeastWhile table m i r a = LeastWithin (demand_while table m i a) (limit_of (at table i)) r
+
+-- whatever may block the task, the smallest number while it does is no later than r; r is the smallest number while one of them does; and no other answer is so
+pub record IsLatestLeast (table : Table) (m : Single) (i : ℕ) (r : Response) : Type 0 where
+  pub each : All (λ a. (s : Response) → IsLeastWhile table m i s a → NoLater s r) (blockers_of table i)
+  pub one : Any (IsLeastWhile table m i r) (blockers_of table i)
+
+pub record IsResponse (table : Table) (m : Single) (i : ℕ) (r : Response) : Type 0 where
+  pub latest : IsLatestLeast table m i r
+  pub only : (s : Response) → IsLatestLeast table m i s → s ≡ r
+
+-- c is no later than a and b, and one of them
+pub record IsSooner (a b c : Response) : Type 0 where
+  pub first : NoLater c a
+  pub second : NoLater c b
+  pub one : (c ≡ a) ⊎ (c ≡ b)
+
+-- the responses by the unions, and the sooner of them, which is the combined one
+pub record IsCombined (table : Table) (i : ℕ) (r : Unions) : Type 0 where
+  pub value : r.combined ≡ response_of table Combined i
+  pub ucb_union : IsResponse table UcbUnion i r.ucb_union
+  pub ecb_union : IsResponse table EcbUnion i r.ecb_union
+  pub sooner : IsSooner r.ucb_union r.ecb_union r.combined

@@ -1,0 +1,11 @@
+// What users rest on, as promises of functions. Each contract here is a law; the function works out what the law speaks of, by the public functions of the
+// crates below. A law that holds of a function's answer on its own stands beside the equation that says which answer that is.
+#![tactic(auto)]
+
+pub mod explanations;
+pub mod figures;
+pub mod growths;
+pub mod orders;
+pub mod responses;
+pub mod solutions;
+pub mod texts;

@@ -1,0 +1,53 @@
+// The same of table texts, where nothing is asked of the caller; and how texts and tables come back.
+ghost use Rattle.std.specs.Prelude.{◌≡◌};
+ghost use Rattle.crpd.specs.Operations.{growth_to};
+ghost use Rattle.laws.specs.Texts.{EasierTextRespondsFirst, IsTextGrowth, ComesBack, IsReadAgain};
+
+use demand::Response;
+use table::{Refusal, Ruling, Table};
+
+// What two texts are answered.
+#[derive(Clone, Copy)]
+pub struct TwoAnswers {
+    pub first: Result<Response, Refusal>,
+    pub second: Result<Response, Refusal>,
+}
+
+// What each of two texts is answered for the task at a position.
+pub fn of_two_texts(first: &[u8], second: &[u8], method: u64, position: u64) -> TwoAnswers
+    ensures { EasierTextRespondsFirst first.now second.now method position result }
+{
+    TwoAnswers {
+        first: crpd::answer(first, method, position),
+        second: crpd::answer(second, method, position),
+    }
+}
+
+// The growth that is left of a text under a method.
+pub fn growth_left(text: &[u8], method: u64) -> Result<u64, Refusal>
+    ensures value { result ≡ growth_to text.now method }
+    ensures means { IsTextGrowth text.now method result }
+{
+    crpd::growth(text, method)
+}
+
+// A text, read and then written into a buffer that no accepted text is too long for.
+pub fn read_then_written(text: &[u8], out: &mut [u8; 9293]) -> Result<usize, Refusal>
+    ensures { ComesBack text.now out.old result out.new }
+{
+    crpd::rewrite(text, out)
+}
+
+// A table, written and then read.
+pub fn written_then_read(table: Table, again: &mut Table) -> Result<(), Refusal>
+    ensures { IsReadAgain table result again.new }
+{
+    let mut out = [0u8; 9293];
+    let len = crpd::write(table, &mut out)?;
+    let outcome = table::read(&out[..len]);
+    *again = outcome.table;
+    match outcome.ruling {
+        Ruling::Accepted => Ok(()),
+        Ruling::Refused(refusal) => Err(refusal),
+    }
+}
