@@ -1,21 +1,17 @@
 -- The tasks of a scaled table, one place at a time and all at once; that a table that is scaled by more is harder; and up to which factor a C is scaled to no
 -- more than the longest. Assumes nothing.
-use Prim.Native.Nat.{ℕ, suc, ◌+◌, ◌*◌, ◌/◌, ◌≤◌, ◌<◌}
-use native.Mathlib.Nat.{mul_comm, mul-le-mul, mul-le-mul_left, le-div_iff_mul-le, lt_of_not-le, zero-mul}
-use native.Mathlib.Numerals.{add-one}
-use native.Mathlib.Omega.{arith}
-use mathlib.Core.Path.{◌≡◌, refl, sym, ap, ◌∙◌}
-use mathlib.Core.List.{List, ◌++◌, map, append-nil}
-use lib.ListN.{length, take, drop, get_or, set, length-map, drop_of_length-le, get_or-map}
-use lib.Seq.{length-take-le, take_all, take-suc, drop-cons, append_snoc, set_at, get_or_at}
+use Rattle.std.proofs.Common.{◌≡◌, ℕ, suc, ◌+◌, ◌*◌, ◌/◌, ◌≤◌, ◌<◌, List, [], ◌∷◌, ◌++◌, length, take, drop, get_or, set, map, refl, sym, ap, ◌∙◌, arith, add-one, append-nil}
+use Rattle.std.proofs.Math.Nat.{mul_comm, mul-le-mul, mul-le-mul_left, le-div_iff_mul-le, lt_of_not-le, zero-mul}
+use Rattle.std.proofs.Math.ListN.{length-map, drop_of_length-le, get_or-map}
+use Rattle.std.proofs.Math.Seq.{length-take-le, take_all, take-suc, drop-cons, append_snoc, set_at, get_or_at}
+use Rattle.std.proofs.lemmas.List.{take-map, map-append}
+use Rattle.std.specs.List.{All}
 use Rattle.demand.proofs.DemandLaws.{ceil-le, ceil-mul}
 use Rattle.units.specs.declared.Ticks.{Ticks}
 use Rattle.tasks.specs.declared.Task.{Task}
 use Rattle.tasks.specs.Tasks.{blank}
 use Rattle.table.specs.declared.Table.{Table}
 use Rattle.table.specs.Tasks.{tasks_of, at, access_at}
-use Rattle.table.proofs.Lists.{take-map}
-use Rattle.readable.proofs.Places.{map_snoc}
 use Rattle.costs.specs.Harder.{HarderTask, Harder}
 use Rattle.scaling.specs.Scaling.{scaled_work, scaled_task, scaled_by}
 
@@ -61,24 +57,14 @@ module _ (k j : ℕ) (ts : List Task) (h : j < length ts) where
   -- and once it is scaled too, they are one more
   first_next : set (scaled_first k j ts) j (scaled_task k (get_or ts j blank)) ≡ scaled_first k (j + 1) ts
   first_next =
-      rw (drop-cons ts j blank h, add-one j, take-suc ts j blank h, map_snoc, append_snoc)
+      rw (drop-cons ts j blank h, add-one j, take-suc ts j blank h, map-append, append_snoc)
       (set_at (map (scaled_task k) (take j ts)) (get_or ts j blank) (drop (suc j) ts) (scaled_task k (get_or ts j blank)) j first-long)
 
 -- and the first of as many as there are, or more, are all of them
 pub first-all : (k j : ℕ) (ts : List Task) → length ts ≤ j → scaled_first k j ts ≡ map (scaled_task k) ts
 first-all k j ts h = rw (take_all j ts h, drop_of_length-le ts {i = j} h) (append-nil (map (scaled_task k) ts))
 
--- the table with other tasks, and the task with another C
-abbrev pub with_tasks : Table → List Task → Table
-with_tasks table ts = record {
-  sets = table.sets;
-  brt = table.brt;
-  count = table.count;
-  tasks = ts;
-  access_count = table.access_count;
-  accesses = table.accesses;
-}
-
+-- a task with another C
 abbrev with_c : Task → Ticks → Task
 with_c t work = record {
   name = t.name;
@@ -91,19 +77,31 @@ with_c t work = record {
   ecb = t.ecb;
 }
 
--- the next task of a table of which the first j are scaled: as it was, and then scaled too
-module _ (k j : ℕ) (table now : Table) (h : j < length table.tasks) (e : now ≡ with_tasks table (scaled_first k j table.tasks)) where
-  pub next-is : get_or now.tasks j blank ≡ get_or table.tasks j blank
-  next-is = ap (λ (T : Table). get_or T.tasks j blank) e ∙ first-at k j table.tasks h
+-- the next task of a list of which the first j are scaled: as it was, and then scaled too
+module _ (k j : ℕ) (ts now : List Task) (h : j < length ts) (e : now ≡ scaled_first k j ts) where
+  pub next-is : get_or now j blank ≡ get_or ts j blank
+  next-is = ap (λ (l : List Task). get_or l j blank) e ∙ first-at k j ts h
 
-  pub next-scaled : (work : Ticks) → work.0 ≡ scaled_work k (get_or now.tasks j blank).work.0
-      → with_tasks now (set now.tasks j (with_c (get_or now.tasks j blank) work)) ≡ with_tasks table (scaled_first k (j + 1) table.tasks)
+  -- its C is one of theirs
+  pub next-small : (most : ℕ) → All (λ t. t.work.0 ≤ most) ts → (get_or now j blank).work.0 ≤ most
+  next-small most each = rw next-is (each j blank h)
+
+  pub next-scaled : (work : Ticks) → work.0 ≡ scaled_work k (get_or now j blank).work.0 → set now j (with_c (get_or now j blank) work) ≡ scaled_first k (j + 1) ts
   next-scaled work w =
-      let is : with_c (get_or now.tasks j blank) work ≡ scaled_task k (get_or table.tasks j blank) =
-      (λ i. with_c (get_or now.tasks j blank) (record { 0 = w i })) ∙ ap (scaled_task k) next-is in
-      ap (λ (T : Table). with_tasks T (set T.tasks j (with_c (get_or now.tasks j blank) work))) e
-      ∙ ap (λ (t : Task). with_tasks table (set (scaled_first k j table.tasks) j t)) is
-      ∙ ap (with_tasks table) (first_next k j table.tasks h)
+      let is : with_c (get_or now j blank) work ≡ scaled_task k (get_or ts j blank) =
+      (λ i. with_c (get_or now j blank) (record { 0 = w i })) ∙ ap (scaled_task k) next-is in
+      ap (λ (l : List Task). set l j (with_c (get_or now j blank) work)) e ∙ ap (set (scaled_first k j ts) j) is ∙ first_next k j ts h
+
+-- the table with other tasks
+abbrev pub with_tasks : Table → List Task → Table
+with_tasks table ts = record {
+  sets = table.sets;
+  brt = table.brt;
+  count = table.count;
+  tasks = ts;
+  access_count = table.access_count;
+  accesses = table.accesses;
+}
 
 -- ---- scaled by more
 

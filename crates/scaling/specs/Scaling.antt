@@ -1,9 +1,9 @@
 -- A table whose execution times are scaled by k thousandths: each C becomes ⌈C × k / 1000⌉, and all else stays, B and the lengths of accesses as well.
 -- Assumes nothing.
-use Rattle.std.specs.Prelude.{ℕ, ◌*◌, ◌≤◌, ◌<◌, ◌≡◌, map, length, get_or}
+use Rattle.std.specs.Prelude.{ℕ, ◌*◌, ◌≤◌, ◌<◌, ◌≡◌, map, length}
+use Rattle.std.specs.List.{All}
 use Rattle.demand.specs.Demand.{ceil}
 use Rattle.tasks.specs.declared.Task.{Task}
-use Rattle.tasks.specs.Tasks.{blank}
 use Rattle.table.specs.declared.Table.{Table}
 use Rattle.table.specs.Tasks.{at}
 
@@ -39,8 +39,8 @@ scaled_by k table = record {
 abbrev pub FitsBy : ℕ → Table → Type 0
 FitsBy k table = (j : ℕ) → j < table.count → scaled_work k (at table j).work.0 ≤ 250000000
 
--- what may be scaled, by up to 4,000 thousandths: no place has a C above the longest
+-- what may be scaled, by up to 4,000 thousandths: of its 32 places none has a C above the longest
 pub record Scalable (k : ℕ) (table : Table) : Type 0 where
   pub most : k ≤ 4000
   pub long : length table.tasks ≡ 32
-  pub works : (j : ℕ) → j < 32 → (get_or table.tasks j blank).work.0 ≤ 250000000
+  pub works : All (λ t. t.work.0 ≤ 250000000) table.tasks

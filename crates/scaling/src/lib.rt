@@ -15,17 +15,12 @@ pub fn scaled_work(work: Ticks, k: u64) -> Ticks
     Ticks((work.0 * k + 999) / 1000)
 }
 
-// A table with every C scaled.
-pub fn scaled(table: Table, k: u64) -> Table
-    requires { Scalable k table }
-    ensures { result ≡ scaled_by k table }
+// Scales every C of a table.
+pub fn scale(table: &mut Table, k: u64)
+    requires { Scalable k table.old }
+    ensures { table.new ≡ scaled_by k table.old }
 {
-    let mut result = table;
-    for j in 0..32usize {
-        let mut task = result.tasks[j];
-        let work = task.work;
-        task.work = scaled_work(work, k);
-        result.tasks[j] = task;
+    for task in table.tasks.iter_mut() {
+        task.work = scaled_work(task.work, k);
     }
-    result
 }

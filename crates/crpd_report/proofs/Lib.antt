@@ -1,0 +1,2 @@
+mod LongTexts
+mod Streams

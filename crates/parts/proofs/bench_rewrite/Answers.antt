@@ -1,0 +1,6 @@
+-- A table that was read is accepted. Assumes nothing.
+use Rattle.std.proofs.Common.{sym}
+use Rattle.parts.proofs.bench_rewrite.Goals as goal
+
+pub rewrite-requires-in-Ok : goal.rewrite-requires-in-Ok
+rewrite-requires-in-Ok c = (c.args.text.now, sym c.in-Ok.ensures.read)
