@@ -1,7 +1,7 @@
 // Sets of cache sets as the hex digits of a field. specs/Marks.antt says which digits, and when a field can hold a set.
 #![tactic(auto)]
 
-ghost use Rattle.std.specs.Prelude.{◌≡◌, ◌+◌, ◌/◌, ◌^◌, ◌≤◌, ◌<◌, ltb, ◌++◌, length};
+ghost use Rattle.std.specs.Prelude.{◌≡◌, ◌+◌, ◌/◌, ◌^◌, ◌≤◌, ◌<◌, ◌++◌, length, nat_lt};
 ghost use Rattle.writer.specs.Text.{after_tab};
 ghost use Rattle.writer.specs.declared.TheConstants.{ROOM};
 ghost use Rattle.marks.specs.Marks.{marks_text, bits_in, word_list, marks_fit};
@@ -51,7 +51,7 @@ pub fn write_marks(draft: &mut Draft, sets: u64, marks: CacheSet)
 #[tactic(auto, using(crate::proofs::Fitting::nothing_above))]
 fn word_fits(word: u64, bits: usize) -> bool
     requires { bits ≤ 64 }
-    ensures { result ≡ ltb word (2 ^ bits) }
+    ensures { result ≡ nat_lt word (2 ^ bits) }
 {
     if bits < 64 { word >> bits == 0 } else { true }
 }

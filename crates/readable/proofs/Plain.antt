@@ -1,11 +1,9 @@
 -- No field that is written holds a tab or an LF. Assumes nothing.
-use Rattle.std.proofs.Common.{◌≡◌, ℕ, zero, suc, ◌+◌, ◌/◌, ◌%◌, ◌≤◌, ◌<◌, Bool, true, false, ◌&&◌, cond, List, [], ◌∷◌, length, refl, arith}
+use Rattle.std.proofs.Common.{◌≡◌, ℕ, zero, suc, ◌+◌, ◌/◌, ◌%◌, ◌≤◌, ◌<◌, Bool, true, false, ◌&&◌, cond, List, [], ◌∷◌, length, refl, arith, ne_eqb, lt-ltb, leb, ltb}
 use Rattle.std.proofs.Math.Bool.{and-eq-true_iff}
-use Rattle.std.proofs.lemmas.Bool.{false≢true}
+use Rattle.std.proofs.lemmas.Bool.{false≢true, lt-leb}
 use Rattle.std.specs.List.{list_all}
-use native.Mathlib.Decide.{dec_lt}
-use borrow.Author.Tests.{ne_eqb, lt-ltb, lt-leb}
-use lib.Dec.{leb, ltb}
+use Rattle.std.proofs.Math.Decide.{dec_lt}
 use Rattle.fields.specs.Bytes.{is_name_byte}
 use Rattle.fields.specs.Fields.{is_name}
 use Rattle.sets.specs.declared.CacheSet.{CacheSet}

@@ -1,14 +1,12 @@
 -- Line 1 and the line of a task: a line that says what is tested here is not refused and says the same again, and a line that is not refused is what is written of
 -- what it says, which passes the tests. Assumes nothing.
-use Rattle.std.proofs.Common.{◌≡◌, ℕ, suc, ◌%◌, ◌≤◌, ◌<◌, Bool, true, false, not, ◌&&◌, List, [], ◌∷◌, ◌++◌, length, get_or, refl, sym, ap, ◌∙◌, arith, Option, Some, None, Ok}
+use Rattle.std.proofs.Common.{◌≡◌, ℕ, suc, ◌%◌, ◌≤◌, ◌<◌, Bool, true, false, not, ◌&&◌, List, [], ◌∷◌, ◌++◌, length, get_or, refl, sym, ap, ◌∙◌, arith, Option, Some, None, Ok, eqb-true, eqb}
 use Rattle.std.proofs.Math.Bool.{and-eq-true_iff}
-use Rattle.std.proofs.lemmas.Bool.{false≢true}
+use Rattle.std.proofs.lemmas.Bool.{false≢true, not-false, not-true}
 use Rattle.std.proofs.lemmas.Slice.Eq.{bytes_eq-Decides}
 use Rattle.std.specs.Prelude.{is_some, unwrap_or}
 use Rattle.std.specs.List.{join_with_byte}
 use Rattle.std.specs.Str.{bytes_eq}
-use borrow.Author.Tests.{eqb-true, not-false, not-true}
-use lib.Dec.{eqb}
 use Rattle.text.specs.Cut.{fields, field, field_count}
 use Rattle.fields.specs.Fields.{is_letter, is_name, is_number, number, has_shape}
 use Rattle.sets.specs.declared.CacheSet.{CacheSet}

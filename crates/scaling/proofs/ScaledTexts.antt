@@ -1,12 +1,11 @@
 -- When the text of a scaled table is accepted: just where no C is scaled beyond the longest, and then as that table. Assumes nothing.
-use Rattle.std.proofs.Common.{◌≡◌, ℕ, zero, suc, ◌+◌, ◌-◌, ◌≤◌, ◌<◌, Bool, true, false, not, cond, ◌&&◌, ◌||◌, List, [], ◌∷◌, ◌++◌, length, take, get_or, map, flat_map, replicate, refl, sym, ap, ap₂, ◌∙◌, arith, append-nil, subst, Some, Result, Ok}
+use Rattle.std.proofs.Common.{◌≡◌, ℕ, zero, suc, ◌+◌, ◌-◌, ◌≤◌, ◌<◌, Bool, true, false, not, cond, ◌&&◌, ◌||◌, List, [], ◌∷◌, ◌++◌, length, take, get_or, map, flat_map, replicate, refl, sym, ap, ap₂, ◌∙◌, arith, append-nil, subst, Some, Result, Ok, le-leb}
 use Rattle.std.proofs.Math.ListN.{length-map}
 use Rattle.std.proofs.lemmas.List.{map-append}
 use Rattle.std.proofs.lemmas.List.Elements.{All-append, All-replicate}
 use Rattle.std.specs.Prelude.{is_ok}
 use Rattle.std.specs.List.{All, list_any, position_or_len, join_with_byte}
-use native.Mathlib.Decide.{dec_lt}
-use borrow.Author.Tests.{le-leb}
+use Rattle.std.proofs.Math.Decide.{dec_lt}
 use Rattle.text.specs.Cut.{fields, lines}
 use Rattle.fields.specs.Fields.{read_digits, is_name}
 use Rattle.tasks.specs.declared.name.Name.{Name}

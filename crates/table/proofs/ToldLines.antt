@@ -1,9 +1,6 @@
 -- What line a refusal of a text tells: one that a text of 16,384 bytes can have.
 -- Assumes nothing.
-use Rattle.std.proofs.Common.{◌≡◌, ℕ, suc, ◌+◌, ◌≤◌, Bool, true, false, not, cond, List, [], ◌∷◌, length, arith, refl, Result, Ok, Err}
-use lib.ListN.{length-take}
-use borrow.Author.Tests.{ltb-false}
-use lib.Dec.{eqb}
+use Rattle.std.proofs.Common.{◌≡◌, ℕ, suc, ◌+◌, ◌≤◌, Bool, true, false, not, cond, List, [], ◌∷◌, length, arith, refl, Result, Ok, Err, length-take, ltb-false, eqb}
 use Rattle.std.proofs.lemmas.List.Sums.{prefix_len-le-length}
 use Rattle.text.specs.Cut.{lead, lines}
 use Rattle.refusals.specs.declared.Reason.{Reason}

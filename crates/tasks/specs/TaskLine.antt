@@ -1,6 +1,6 @@
 -- What a task line says, field by field, and its refusals, each with its condition, in the order in which they are tried.
 -- Assumes nothing.
-use Rattle.std.specs.Prelude.{ℕ, List, [], ◌∷◌, Bool, ◌≡◌, true, not, cond, ◌&&◌, leb, Option, Some, None, is_some, unwrap_or}
+use Rattle.std.specs.Prelude.{ℕ, List, [], ◌∷◌, Bool, ◌≡◌, true, not, ◌&&◌, Option, Some, None, is_some, unwrap_or, if◌then◌else◌, nat_le}
 use Rattle.text.specs.Cut.{field}
 use Rattle.fields.specs.Fields.{is_number, number, has_shape, is_name, is_within}
 use Rattle.sets.specs.Field.{read_set}
@@ -40,7 +40,7 @@ are_numbers work period deadline jitter blocking =
 
 unfoldable pub read_times : (work period deadline jitter blocking : List ℕ) → Option Times
 read_times work period deadline jitter blocking =
-    cond (are_numbers work period deadline jitter blocking) (Some (times_said work period deadline jitter blocking)) None
+    if are_numbers work period deadline jitter blocking then Some (times_said work period deadline jitter blocking) else None
 
 -- the times of a task
 abbrev pub times_of : Task → Times
@@ -57,7 +57,7 @@ times_in_range t =
 
 -- J ≤ D ≤ T
 unfoldable pub times_in_order : Times → Bool
-times_in_order t = leb t.jitter.0 t.deadline.0 && leb t.deadline.0 t.period.0
+times_in_order t = nat_le t.jitter.0 t.deadline.0 && nat_le t.deadline.0 t.period.0
 
 -- what a task line says: after `T` the name, then the times, and the two sets (the empty one where a field is no set)
 unfoldable pub task_said : ℕ → List ℕ → Task

@@ -1,11 +1,7 @@
 -- The digits of a number: how they follow from one another, how many there are, and how they are put where they belong. Assumes nothing.
-use Rattle.std.proofs.Common.{◌≡◌, refl, sym, ap, ◌∙◌, ℕ, zero, suc, ◌+◌, ◌*◌, ◌/◌, ◌%◌, ◌^◌, ◌≤◌, ◌<◌, List, [], ◌∷◌, ◌++◌, length, drop, length-append, append_assoc, arith}
-use native.Mathlib.Nat.{pow-suc, mod-eq_of_lt}
-use native.Mathlib.Numerals.{add-one}
-use native.Mathlib.Decide.{dec_lt}
-use borrow.Author.Tests.{lt-ltb, le-ltb}
+use Rattle.std.proofs.Common.{◌≡◌, refl, sym, ap, ◌∙◌, ℕ, zero, suc, ◌+◌, ◌*◌, ◌/◌, ◌%◌, ◌^◌, ◌≤◌, ◌<◌, List, [], ◌∷◌, ◌++◌, length, drop, length-append, append_assoc, arith, pow-suc, mod-eq_of_lt, add-one, lt-ltb, le-ltb, shr-shr}
+use Rattle.std.proofs.Math.Decide.{dec_lt}
 use Rattle.std.proofs.Math.ListN.{set}
-use lib.Pow.{shr-shr}
 use Rattle.std.proofs.lemmas.List.{drop-set}
 use Rattle.writer.specs.Text.{digit_byte, digits_of, spelled, hex_byte, hex_digits}
 

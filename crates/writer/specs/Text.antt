@@ -1,5 +1,5 @@
 -- The text of a number, of a field and of a line. Assumes nothing.
-use Rattle.std.specs.Prelude.{ℕ, zero, suc, ◌+◌, ◌/◌, ◌%◌, Bool, true, false, cond, ltb, List, [], ◌∷◌, ◌++◌, flat_map}
+use Rattle.std.specs.Prelude.{ℕ, zero, suc, ◌+◌, ◌/◌, ◌%◌, Bool, true, false, List, [], ◌∷◌, ◌++◌, flat_map, if◌then◌else◌, nat_lt}
 
 -- the byte of a digit
 abbrev pub digit_byte : ℕ → ℕ
@@ -9,7 +9,7 @@ digit_byte d = 48 + d
 unfoldable pub digits_of : ℕ → ℕ → List ℕ
 digits_of zero n = []
 digits_of (suc k) n =
-    elim (ltb n 10) [ true ↦ digit_byte n ∷ [] | false ↦ digits_of k (n / 10) ++ (digit_byte (n % 10) ∷ []) ]
+    elim (nat_lt n 10) [ true ↦ digit_byte n ∷ [] | false ↦ digits_of k (n / 10) ++ (digit_byte (n % 10) ∷ []) ]
 
 -- a number in decimal with no leading zero: n has at most n + 1 digits
 unfoldable pub spelled : ℕ → List ℕ
@@ -18,7 +18,7 @@ spelled n = digits_of (suc n) n
 
 -- the byte of a hex digit: `0` to `9` are 48 to 57, and `a` to `f` are 97 to 102
 unfoldable pub hex_byte : ℕ → ℕ
-hex_byte d = cond (ltb d 10) (48 + d) (87 + d)
+hex_byte d = if nat_lt d 10 then 48 + d else 87 + d
 
 -- the lowest k hex digits of a number, the most significant first
 unfoldable pub hex_digits : ℕ → ℕ → List ℕ
