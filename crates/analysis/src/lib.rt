@@ -1,22 +1,31 @@
 // The response of a task under a method. specs/Analysis.antt says what a response is.
 #![tactic(auto)]
 
+pub mod blocked_row;
+pub mod carried;
+pub mod costs;
+pub mod need;
+pub mod one_row;
+pub mod rows;
+
 ghost use Rattle.std.specs.Prelude.{◌≡◌, ◌<◌, ◌≤◌, length};
-ghost use Rattle.demand.specs.Demand.{demand_of};
-ghost use Rattle.demand.specs.Terms.{term_in, Handed};
-ghost use Rattle.demand.specs.Least.{least_of};
+ghost use Rattle.search.specs.Demand.{demand_of};
+ghost use Rattle.search.specs.Terms.{term_in, Handed};
+ghost use Rattle.search.specs.Least.{least_of};
 ghost use Rattle.table.specs.Accepted.{AcceptedTable};
-ghost use Rattle.table.specs.Tasks.{at};
-ghost use Rattle.tasks.specs.Tasks.{limit_of};
-ghost use Rattle.one_row.specs.Row.{Charged};
-ghost use Rattle.blocked_row.specs.BlockedRow.{ChargedUnder};
+ghost use Rattle.table.specs.Tables.{at};
+ghost use Rattle.table.specs.Tasks.{limit_of};
+ghost use Rattle.analysis.specs.Row.{Charged};
+ghost use Rattle.analysis.specs.BlockedRow.{ChargedUnder};
 ghost use Rattle.analysis.specs.Analysis.{least_under, answer_of, response_of, method_of, Blocks};
 
-use accesses::Access;
-use costs::{Charge, Single};
-use demand::{Response, Term};
+use search::response;
+use table::accesses;
+use table::accesses::Access;
+use crate::costs::{Charge, Single};
+use search::demand::{Response, Term};
 use table::Table;
-use units::Ticks;
+use cache::units::Ticks;
 
 // The six methods.
 #[derive(Clone, Copy)]

@@ -3,31 +3,37 @@
 // is left, no other task is looked at.
 #![tactic(auto)]
 
+pub mod scaling;
+
 ghost use Rattle.std.specs.Prelude.{◌≡◌, min, max, ◌≤◌, ◌<◌, length};
-ghost use Rattle.demand.specs.Positions.{front};
-ghost use Rattle.demand.specs.Demand.{term_of, demand_of};
-ghost use Rattle.demand.specs.Terms.{term_in, Handed};
-ghost use Rattle.demand.specs.Least.{least_of};
-ghost use Rattle.response.specs.Counts.{Started};
-ghost use Rattle.readable.specs.Readable.{Readable};
+ghost use Rattle.search.specs.Positions.{front};
+ghost use Rattle.search.specs.Demand.{term_of, demand_of};
+ghost use Rattle.search.specs.Terms.{term_in, Handed};
+ghost use Rattle.search.specs.Least.{least_of};
+ghost use Rattle.search.specs.Counts.{Started};
+ghost use Rattle.table_text.specs.Readable.{Readable};
 ghost use Rattle.table.specs.Accepted.{AcceptedTable};
-ghost use Rattle.costs.specs.Costs.{term_with};
-ghost use Rattle.one_row.specs.Row.{Charged};
-ghost use Rattle.blocked_row.specs.BlockedRow.{ChargedUnder, FewReloads, term_by};
+ghost use Rattle.analysis.specs.Costs.{term_with};
+ghost use Rattle.analysis.specs.Row.{Charged};
+ghost use Rattle.analysis.specs.BlockedRow.{ChargedUnder, FewReloads, term_by};
 ghost use Rattle.analysis.specs.Analysis.{answer_of, response_of, Blocks};
-ghost use Rattle.verdicts.specs.Verdicts.{has_response};
-ghost use Rattle.scaling.specs.Scaling.{scaled_by};
+ghost use Rattle.report.specs.Verdicts.{has_response};
+ghost use Rattle.growth.specs.Scaling.{scaled_by};
 ghost use Rattle.growth.specs.Growth.{growth_of, Bounds};
 ghost use Rattle.growth.specs.Tried.{answers_under, Stretches, FitsUpTo};
 
-use accesses::Access;
+use analysis::blocked_row;
+use analysis::one_row;
+use search::response;
+use table::accesses;
+use table::accesses::Access;
 use analysis::Method;
-use costs::{Charge, Single};
-use demand::{Response, Term};
-use response::Count;
-use scaling::scaled_work;
+use analysis::costs::{Charge, Single};
+use search::demand::{Response, Term};
+use search::response::Count;
+use crate::scaling::scaled_work;
 use table::Table;
-use units::{Reloads, Ticks};
+use cache::units::{Reloads, Ticks};
 
 // The greatest k that is tried.
 const MOST_TRIED: u64 = 4000;

@@ -1,26 +1,26 @@
 -- The lines of an explanation add up to the need, and the need is the response where it is within the limit. Assumes nothing.
 use Rattle.std.proofs.Common.{ℕ, ◌≤◌, ◌<◌, List, ◌≡◌, sym, ap, ◌∙◌, arith}
-use Rattle.units.specs.declared.Ticks.{Ticks}
-use Rattle.demand.specs.declared.Response.TheVariants.{Within}
-use Rattle.demand.specs.declared.Term.{Term}
-use Rattle.demand.specs.Demand.{work_of}
-use Rattle.demand.specs.Terms.{InRange}
+use Rattle.cache.specs.declared.units.Ticks.{Ticks}
+use Rattle.search.specs.declared.demand.Response.TheVariants.{Within}
+use Rattle.search.specs.declared.demand.Term.{Term}
+use Rattle.search.specs.Demand.{work_of}
+use Rattle.search.specs.Terms.{InRange}
 use Rattle.table.specs.declared.Table.{Table}
 use Rattle.table.specs.Accepted.{AcceptedTable}
-use Rattle.costs.specs.declared.Charge.{Charge}
-use Rattle.costs.specs.Costs.{reloads_in, reloads_with, term_with, term_under}
-use Rattle.costs.proofs.OrderLaws.{term-ranged}
-use Rattle.one_row.specs.Row.{charge_in}
-use Rattle.blocked_row.specs.BlockedRow.{ChargedUnder}
-use Rattle.blocked_row.proofs.JoinLaws.{row-few, row-term}
+use Rattle.analysis.specs.declared.costs.Charge.{Charge}
+use Rattle.analysis.specs.Costs.{reloads_in, reloads_with, term_with, term_under}
+use Rattle.analysis.proofs.OrderLaws.{term-ranged}
+use Rattle.analysis.specs.Row.{charge_in}
+use Rattle.analysis.specs.BlockedRow.{ChargedUnder}
+use Rattle.analysis.proofs.JoinLaws.{row-few, row-term}
 use Rattle.analysis.specs.declared.Method.{Method}
 use Rattle.analysis.specs.Analysis.{response_of}
-use Rattle.need.specs.declared.Need.{Need}
-use Rattle.need.specs.Needs.{need_of}
-use Rattle.need.proofs.NeedLaws.{response-needed, need-responds}
-use Rattle.explanation.specs.Explained.{Grounds}
-use Rattle.explanation.proofs.Ranges.{needed}
-use Rattle.explanation.proofs.Truth.{explanation-adds-up}
+use Rattle.analysis.specs.declared.need.Need.{Need}
+use Rattle.analysis.specs.Needs.{need_of}
+use Rattle.analysis.proofs.NeedLaws.{response-needed, need-responds}
+use Rattle.report.specs.Explained.{Grounds}
+use Rattle.report.proofs.Ranges.{needed}
+use Rattle.report.proofs.Truth.{explanation-adds-up}
 use Rattle.laws.specs.declared.explanations.Sum.{Sum}
 use Rattle.laws.specs.declared.explanations.NeedAndResponse.{NeedAndResponse}
 use Rattle.laws.specs.Explanations.{adds_at, sum_of, AddsUp, IsNeededAsAnswered}

@@ -4,21 +4,21 @@ use Rattle.std.specs.List.{All}
 use Rattle.std.proofs.Math.Path.{fun_ext}
 use Rattle.std.proofs.Math.ListN.{get_or-map}
 use Rattle.std.proofs.lemmas.List.{get_or-map as get_or-map-in}
-use Rattle.units.specs.declared.Ticks.{Ticks}
-use Rattle.sets.specs.Words.{members}
-use Rattle.demand.specs.declared.Response.{Response}
-use Rattle.demand.specs.Demand.{term_of, demand_of}
-use Rattle.demand.specs.Least.{least_of, sooner, latest_of}
-use Rattle.tasks.specs.declared.Task.{Task}
-use Rattle.tasks.specs.Tasks.{limit_of, blank}
-use Rattle.accesses.specs.declared.Access.{Access}
-use Rattle.accesses.specs.Accesses.{added_by, blocking, or_else, plain_access}
+use Rattle.cache.specs.declared.units.Ticks.{Ticks}
+use Rattle.cache.specs.Words.{members}
+use Rattle.search.specs.declared.demand.Response.{Response}
+use Rattle.search.specs.Demand.{term_of, demand_of}
+use Rattle.search.specs.Least.{least_of, sooner, latest_of}
+use Rattle.table.specs.declared.tasks.Task.{Task}
+use Rattle.table.specs.Tasks.{limit_of, blank}
+use Rattle.table.specs.declared.accesses.Access.{Access}
+use Rattle.table.specs.Accesses.{added_by, blocking, or_else, plain_access}
 use Rattle.table.specs.declared.Table.{Table}
-use Rattle.table.specs.Tasks.{tasks_of, at, accesses_of}
-use Rattle.costs.specs.declared.Single.{Single}
-use Rattle.costs.specs.declared.Single.TheVariants.{UcbUnion, EcbUnion}
-use Rattle.costs.specs.declared.Charge.{Charge}
-use Rattle.costs.specs.Costs.{charge_of, charge_at, reloads_with}
+use Rattle.table.specs.Tables.{tasks_of, at, accesses_of}
+use Rattle.analysis.specs.declared.costs.Single.{Single}
+use Rattle.analysis.specs.declared.costs.Single.TheVariants.{UcbUnion, EcbUnion}
+use Rattle.analysis.specs.declared.costs.Charge.{Charge}
+use Rattle.analysis.specs.Costs.{charge_of, charge_at, reloads_with}
 use Rattle.analysis.specs.declared.Method.{Method}
 use Rattle.analysis.specs.declared.Method.TheVariants.{Of, Combined}
 use Rattle.analysis.specs.Analysis.{answer_of, response_of}

@@ -3,16 +3,16 @@ use Rattle.std.proofs.Common.{ℕ, zero, suc, ◌≤◌, ◌<◌, true, ◌&&◌
 use Rattle.std.proofs.Math.Bool.{and-eq-true_iff, false≢true}
 use Rattle.std.proofs.Math.Decide.{dec_le}
 use Rattle.std.proofs.Math.Nat.{le_antisymm}
-use Rattle.units.specs.declared.Ticks.{Ticks}
-use Rattle.demand.specs.declared.Response.{Response}
-use Rattle.demand.specs.declared.Response.TheVariants.{Within, Unschedulable}
-use Rattle.demand.proofs.PositionLaws.{fold-none, fold_next}
+use Rattle.cache.specs.declared.units.Ticks.{Ticks}
+use Rattle.search.specs.declared.demand.Response.{Response}
+use Rattle.search.specs.declared.demand.Response.TheVariants.{Within, Unschedulable}
+use Rattle.search.proofs.PositionLaws.{fold-none, fold_next}
 use Rattle.table.specs.declared.Table.{Table}
-use Rattle.readable.specs.Readable.{Readable}
-use Rattle.verdicts.specs.Verdicts.{has_response, verdict}
+use Rattle.table_text.specs.Readable.{Readable}
+use Rattle.report.specs.Verdicts.{has_response, verdict}
 use Rattle.analysis.specs.declared.Method.{Method}
 use Rattle.analysis.specs.Analysis.{response_of}
-use Rattle.scaling.specs.Scaling.{scaled_by}
+use Rattle.growth.specs.Scaling.{scaled_by}
 use Rattle.growth.specs.Growth.{passes, growth_of}
 use Rattle.growth.proofs.GrowthLaws.{fits-passes, passes-fits, growth-means}
 use Rattle.laws.specs.Growths.{PassesBy, IsBoundary, IsGrowth}

@@ -2,22 +2,22 @@
 use Rattle.std.proofs.Common.{ℕ, zero, suc, ◌+◌, ◌-◌, ◌≤◌, ◌<◌, List, [], ◌∷◌, ◌++◌, length, take, get_or, ◌≡◌, refl, ap, ◌∙◌, arith, eq-eqb, zero-le}
 use Rattle.std.proofs.lemmas.List.{take_more}
 use Rattle.std.proofs.Math.Decide.{dec_lt}
-use Rattle.demand.specs.declared.Response.{Response}
-use Rattle.demand.specs.declared.Response.TheVariants.{Within, Unschedulable}
-use Rattle.demand.specs.declared.Term.{Term}
-use Rattle.demand.specs.Positions.{hp, fold}
-use Rattle.demand.specs.Demand.{work_of}
-use Rattle.demand.specs.Least.{NoLater}
-use Rattle.demand.proofs.PositionLaws.{run_long}
+use Rattle.search.specs.declared.demand.Response.{Response}
+use Rattle.search.specs.declared.demand.Response.TheVariants.{Within, Unschedulable}
+use Rattle.search.specs.declared.demand.Term.{Term}
+use Rattle.search.specs.Positions.{hp, fold}
+use Rattle.search.specs.Demand.{work_of}
+use Rattle.search.specs.Least.{NoLater}
+use Rattle.search.proofs.PositionLaws.{run_long}
 use Rattle.table.specs.declared.Table.{Table}
 use Rattle.table.specs.Accepted.{AcceptedTable}
 use Rattle.analysis.specs.declared.Method.{Method}
 use Rattle.analysis.specs.Analysis.{response_of}
 use Rattle.analysis.proofs.Orders.{response-place, harder-no-sooner}
-use Rattle.any_order.specs.Permutations.{times_in, EachOnce}
-use Rattle.any_order.specs.Equation.{demand_over}
-use Rattle.any_order.proofs.PermutationLaws.{once-permutation, fold-any-order}
-use Rattle.any_order.proofs.AnyOrder.{sum-unordered}
+use Rattle.laws.specs.Permutations.{times_in, EachOnce}
+use Rattle.laws.specs.Equation.{demand_over}
+use Rattle.laws.proofs.PermutationLaws.{once-permutation, fold-any-order}
+use Rattle.laws.proofs.AnyOrder.{sum-unordered}
 use Rattle.laws.specs.declared.orders.TwoResponses.{TwoResponses}
 use Rattle.laws.specs.Orders.{RespondsBy, EasierRespondsFirst}
 

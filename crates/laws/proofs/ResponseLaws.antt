@@ -4,17 +4,17 @@ use Rattle.std.specs.List.{All, Any}
 use Rattle.std.proofs.lemmas.List.{get_or-map, length-map, get_or_default}
 use Rattle.std.proofs.Math.Decide.{dec_le}
 use Rattle.std.proofs.Math.Nat.{le_antisymm}
-use Rattle.demand.specs.declared.Response.{Response}
-use Rattle.demand.specs.declared.Response.TheVariants.{Within, Unschedulable}
-use Rattle.demand.specs.Least.{NoLater, sooner, IsLatest}
-use Rattle.demand.proofs.LeastLaws.{least-unique}
-use Rattle.tasks.specs.Tasks.{limit_of}
-use Rattle.accesses.specs.declared.Access.{Access}
-use Rattle.accesses.specs.Accesses.{empty_access}
+use Rattle.search.specs.declared.demand.Response.{Response}
+use Rattle.search.specs.declared.demand.Response.TheVariants.{Within, Unschedulable}
+use Rattle.search.specs.Least.{NoLater, sooner, IsLatest}
+use Rattle.search.proofs.LeastLaws.{least-unique}
+use Rattle.table.specs.Tasks.{limit_of}
+use Rattle.table.specs.declared.accesses.Access.{Access}
+use Rattle.table.specs.Accesses.{empty_access}
 use Rattle.table.specs.declared.Table.{Table}
-use Rattle.table.specs.Tasks.{at}
-use Rattle.costs.specs.declared.Single.{Single}
-use Rattle.costs.specs.declared.Single.TheVariants.{UcbUnion, EcbUnion}
+use Rattle.table.specs.Tables.{at}
+use Rattle.analysis.specs.declared.costs.Single.{Single}
+use Rattle.analysis.specs.declared.costs.Single.TheVariants.{UcbUnion, EcbUnion}
 use Rattle.analysis.specs.declared.Method.TheVariants.{Of, Combined}
 use Rattle.analysis.specs.Analysis.{blockers_of, least_under, answer_of, response_of}
 use Rattle.analysis.proofs.AnswerLaws.{answer-means, least-means}

@@ -1,12 +1,12 @@
 -- What the search finds is the smallest solution. Assumes nothing.
 use Rattle.std.proofs.Common.{ℕ, List, length, ◌≡◌, sym, subst, ◌∙◌}
-use Rattle.demand.specs.declared.Term.{Term}
-use Rattle.demand.specs.declared.Response.{Response}
-use Rattle.demand.specs.Demand.{demand_of}
-use Rattle.demand.specs.Terms.{term_in, Handed}
-use Rattle.demand.specs.Least.{least_of, LeastWithin}
-use Rattle.demand.proofs.LeastLaws.{least_of-least, least-is, answer-under}
-use Rattle.demand.proofs.DemandLaws.{demand-mono}
+use Rattle.search.specs.declared.demand.Term.{Term}
+use Rattle.search.specs.declared.demand.Response.{Response}
+use Rattle.search.specs.Demand.{demand_of}
+use Rattle.search.specs.Terms.{term_in, Handed}
+use Rattle.search.specs.Least.{least_of, LeastWithin}
+use Rattle.search.proofs.LeastLaws.{least_of-least, least-is, answer-under}
+use Rattle.search.proofs.DemandLaws.{demand-mono}
 use Rattle.laws.specs.Solutions.{IsSmallest}
 
 module _ {own : ℕ} {terms : List Term} {limit : ℕ} (handed : Handed own terms limit) where

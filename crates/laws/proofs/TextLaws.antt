@@ -2,18 +2,18 @@
 use Rattle.std.proofs.Common.{ℕ, ◌≤◌, Bool, true, false, List, ◌++◌, length, take, drop, ◌≡◌, refl, sym, ap, ◌∙◌, arith, cond, ltb, Result, Ok, Err}
 use Rattle.std.proofs.lemmas.Bool.{ltb-false, le-ltb}
 use Rattle.std.proofs.Math.Seq.{take_at}
-use Rattle.demand.specs.declared.Response.{Response}
-use Rattle.demand.specs.declared.Response.TheVariants.{Within}
+use Rattle.search.specs.declared.demand.Response.{Response}
+use Rattle.search.specs.declared.demand.Response.TheVariants.{Within}
 use Rattle.table.specs.declared.Refusal.{Refusal}
 use Rattle.table.specs.declared.Outcome.{Outcome}
 use Rattle.table.specs.declared.Ruling.{Ruling}
 use Rattle.table.specs.declared.Ruling.TheVariants.{Accepted}
 use Rattle.table.specs.declared.Table.{Table}
 use Rattle.table.specs.Reading.{refusal, read_text, accepted}
-use Rattle.delivery.proofs.Deliveries.{fitting}
+use Rattle.writing.proofs.Deliveries.{fitting}
 use Rattle.table_text.specs.TableText.{table_text}
-use Rattle.readable.specs.Readable.{Readable}
-use Rattle.readable.proofs.RoundTrip.{written-then-read}
+use Rattle.table_text.specs.Readable.{Readable}
+use Rattle.table_text.proofs.RoundTrip.{written-then-read}
 use Rattle.growth.specs.Growth.{growth_of}
 use Rattle.crpd.specs.Operations.{numbered, answer_to, method_ruling_of, growth_to, TextWritten, TextRewritten, TableWritten}
 use Rattle.crpd.proofs.Easier.{easier-answers}

@@ -1,17 +1,17 @@
 -- What an explanation says is true of the equation. Assumes nothing.
 use Rattle.std.specs.Prelude.{ℕ, ◌+◌, ◌*◌, ◌≤◌, ◌≡◌}
-use Rattle.units.specs.declared.Ticks.{Ticks}
-use Rattle.demand.specs.declared.Response.TheVariants.{Within}
-use Rattle.demand.specs.Positions.{hp, fold}
-use Rattle.tasks.specs.Tasks.{limit_of}
+use Rattle.cache.specs.declared.units.Ticks.{Ticks}
+use Rattle.search.specs.declared.demand.Response.TheVariants.{Within}
+use Rattle.search.specs.Positions.{hp, fold}
+use Rattle.table.specs.Tasks.{limit_of}
 use Rattle.table.specs.declared.Table.{Table}
-use Rattle.table.specs.Tasks.{at}
-use Rattle.costs.specs.Costs.{reloads_in, charge_under}
+use Rattle.table.specs.Tables.{at}
+use Rattle.analysis.specs.Costs.{reloads_in, charge_under}
 use Rattle.analysis.specs.declared.Method.{Method}
 use Rattle.analysis.specs.Analysis.{response_of}
-use Rattle.need.specs.declared.Need.{Need}
-use Rattle.need.specs.Needs.{need_of}
-use Rattle.explanation.specs.Explanation.{activations_in}
+use Rattle.analysis.specs.declared.need.Need.{Need}
+use Rattle.analysis.specs.Needs.{need_of}
+use Rattle.report.specs.Explanation.{activations_in}
 use Rattle.laws.specs.declared.explanations.Sum.{Sum}
 use Rattle.laws.specs.declared.explanations.NeedAndResponse.{NeedAndResponse}
 

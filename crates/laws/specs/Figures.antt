@@ -1,11 +1,11 @@
 -- The figures that were worked out by hand, of the tables that they are about. Assumes nothing.
 use Rattle.std.specs.Prelude.{ℕ, ◌≡◌, [], map, All}
-use Rattle.demand.specs.declared.Response.{Response}
-use Rattle.tasks.specs.declared.Task.{Task}
+use Rattle.search.specs.declared.demand.Response.{Response}
+use Rattle.table.specs.declared.tasks.Task.{Task}
 use Rattle.table.specs.declared.Table.{Table}
-use Rattle.table.specs.Tasks.{tasks_of, accesses_of}
-use Rattle.costs.specs.declared.Single.{Single}
-use Rattle.costs.specs.declared.Charge.{Charge}
+use Rattle.table.specs.Tables.{tasks_of, accesses_of}
+use Rattle.analysis.specs.declared.costs.Single.{Single}
+use Rattle.analysis.specs.declared.costs.Charge.{Charge}
 use Rattle.analysis.specs.declared.Method.{Method}
 use Rattle.analysis.specs.Figures.{Figure, figures, ChargeFigure, charge_figures}
 

@@ -1,11 +1,11 @@
 -- How much growth is left, in words of tables. Assumes nothing.
 use Rattle.std.specs.Prelude.{ℕ, ◌≤◌, ◌<◌, ◌≡◌}
-use Rattle.units.specs.declared.Ticks.{Ticks}
-use Rattle.demand.specs.declared.Response.TheVariants.{Within}
+use Rattle.cache.specs.declared.units.Ticks.{Ticks}
+use Rattle.search.specs.declared.demand.Response.TheVariants.{Within}
 use Rattle.table.specs.declared.Table.{Table}
 use Rattle.analysis.specs.declared.Method.{Method}
 use Rattle.analysis.specs.Analysis.{response_of}
-use Rattle.scaling.specs.Scaling.{scaled_by, FitsBy}
+use Rattle.growth.specs.Scaling.{scaled_by, FitsBy}
 
 -- scaled by k thousandths no C of the table is above the longest, and every task has a response
 pub record PassesBy (table : Table) (m : Method) (k : ℕ) : Type 0 where

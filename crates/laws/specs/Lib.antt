@@ -1,3 +1,9 @@
+pub mod Permutations
+pub mod Equation
+pub mod CacheSets
+pub mod Examples
+pub mod Calls
+pub mod Lines
 pub mod Explanations
 pub mod Figures
 pub mod Growths

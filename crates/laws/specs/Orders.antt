@@ -1,10 +1,10 @@
 -- Tables that are no harder than others. Assumes nothing.
 use Rattle.std.specs.Prelude.{ℕ, ◌≤◌, ◌≡◌}
-use Rattle.units.specs.declared.Ticks.{Ticks}
-use Rattle.demand.specs.declared.Response.{Response}
-use Rattle.demand.specs.declared.Response.TheVariants.{Within}
+use Rattle.cache.specs.declared.units.Ticks.{Ticks}
+use Rattle.search.specs.declared.demand.Response.{Response}
+use Rattle.search.specs.declared.demand.Response.TheVariants.{Within}
 use Rattle.table.specs.declared.Table.{Table}
-use Rattle.costs.specs.Harder.{Harder, HarderBy}
+use Rattle.analysis.specs.Harder.{Harder, HarderBy}
 use Rattle.analysis.specs.declared.Method.{Method}
 use Rattle.analysis.specs.Analysis.{response_of}
 use Rattle.laws.specs.declared.orders.TwoResponses.{TwoResponses}

@@ -1,15 +1,15 @@
 -- What a response is, without a word of how it is found. Assumes nothing.
 use Rattle.std.specs.Prelude.{ℕ, ◌+◌, ◌≡◌, ◌⊎◌, All, Any}
-use Rattle.demand.specs.declared.Response.{Response}
-use Rattle.demand.specs.Demand.{demand_of}
-use Rattle.demand.specs.Least.{LeastWithin, NoLater}
-use Rattle.tasks.specs.Tasks.{limit_of}
-use Rattle.accesses.specs.declared.Access.{Access}
+use Rattle.search.specs.declared.demand.Response.{Response}
+use Rattle.search.specs.Demand.{demand_of}
+use Rattle.search.specs.Least.{LeastWithin, NoLater}
+use Rattle.table.specs.Tasks.{limit_of}
+use Rattle.table.specs.declared.accesses.Access.{Access}
 use Rattle.table.specs.declared.Table.{Table}
-use Rattle.table.specs.Tasks.{at}
-use Rattle.costs.specs.declared.Single.{Single}
-use Rattle.costs.specs.declared.Single.TheVariants.{UcbUnion, EcbUnion}
-use Rattle.costs.specs.Costs.{term_under}
+use Rattle.table.specs.Tables.{at}
+use Rattle.analysis.specs.declared.costs.Single.{Single}
+use Rattle.analysis.specs.declared.costs.Single.TheVariants.{UcbUnion, EcbUnion}
+use Rattle.analysis.specs.Costs.{term_under}
 use Rattle.analysis.specs.declared.Method.TheVariants.{Combined}
 use Rattle.analysis.specs.Analysis.{blockers_of, response_of}
 use Rattle.laws.specs.declared.responses.Unions.{Unions}

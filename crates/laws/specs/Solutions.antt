@@ -1,9 +1,9 @@
 -- The smallest solution of an equation. Assumes nothing.
 use Rattle.std.specs.Prelude.{ℕ, ◌≤◌, ◌≡◌}
-use Rattle.units.specs.declared.Ticks.{Ticks}
-use Rattle.demand.specs.declared.Response.{Response}
-use Rattle.demand.specs.declared.Response.TheVariants.{Within}
-use Rattle.demand.specs.Least.{LeastWithin}
+use Rattle.cache.specs.declared.units.Ticks.{Ticks}
+use Rattle.search.specs.declared.demand.Response.{Response}
+use Rattle.search.specs.declared.demand.Response.TheVariants.{Within}
+use Rattle.search.specs.Least.{LeastWithin}
 
 -- r is the smallest whole number up to the limit that equals its demand, or says that there is none; no other answer is so; and where the demand of some number
 -- up to the limit is no larger than the number, there is a solution, which is no larger either

@@ -1,12 +1,12 @@
 -- What is told of table texts. Assumes nothing.
 use Rattle.std.specs.Prelude.{ℕ, ◌≤◌, ◌≡◌, List, ◌++◌, length, drop, Result, Ok}
-use Rattle.units.specs.declared.Ticks.{Ticks}
-use Rattle.demand.specs.declared.Response.TheVariants.{Within}
+use Rattle.cache.specs.declared.units.Ticks.{Ticks}
+use Rattle.search.specs.declared.demand.Response.TheVariants.{Within}
 use Rattle.table.specs.declared.Refusal.{Refusal}
 use Rattle.table.specs.declared.Table.{Table}
 use Rattle.table.specs.Reading.{accepted, read_text}
-use Rattle.costs.specs.Harder.{Harder}
-use Rattle.readable.specs.Readable.{Readable}
+use Rattle.analysis.specs.Harder.{Harder}
+use Rattle.table_text.specs.Readable.{Readable}
 use Rattle.crpd.specs.Operations.{numbered, answer_to}
 use Rattle.laws.specs.Growths.{IsGrowth}
 use Rattle.laws.specs.declared.texts.TwoAnswers.{TwoAnswers}

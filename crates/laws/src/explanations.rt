@@ -1,14 +1,18 @@
 // What an explanation says is true of the equation.
 ghost use Rattle.std.specs.Prelude.{◌≡◌, ◌<◌, ◌≤◌};
 ghost use Rattle.table.specs.Accepted.{AcceptedTable};
-ghost use Rattle.explanation.specs.Explained.{Grounds};
+ghost use Rattle.report.specs.Explained.{Grounds};
 ghost use Rattle.laws.specs.Explanations.{sum_of, AddsUp, IsNeededAsAnswered};
 
+use analysis::blocked_row;
+use analysis::costs;
+use analysis::need;
+use analysis::one_row;
 use analysis::Method;
-use demand::Response;
-use need::Need;
+use search::demand::Response;
+use analysis::need::Need;
 use table::Table;
-use units::Ticks;
+use cache::units::Ticks;
 
 // What a task needs, and what the lines of its explanation add up to; 0 where the need is beyond.
 #[derive(Clone, Copy)]

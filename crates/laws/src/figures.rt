@@ -2,12 +2,13 @@
 ghost use Rattle.std.specs.Prelude.{◌≡◌, ◌<◌};
 ghost use Rattle.table.specs.Accepted.{AcceptedTable};
 ghost use Rattle.analysis.specs.Analysis.{response_of};
-ghost use Rattle.costs.specs.Costs.{charge_at};
+ghost use Rattle.analysis.specs.Costs.{charge_at};
 ghost use Rattle.laws.specs.Figures.{IsFigured, IsChargeFigured};
 
+use analysis::one_row;
 use analysis::Method;
-use costs::{Charge, Single};
-use demand::Response;
+use analysis::costs::{Charge, Single};
+use search::demand::Response;
 use table::Table;
 
 // The response of the task at i. Where there is a figure of it, it is that one.

@@ -1,6 +1,6 @@
 // How much growth of execution times is left.
 ghost use Rattle.std.specs.Prelude.{◌≡◌};
-ghost use Rattle.readable.specs.Readable.{Readable};
+ghost use Rattle.table_text.specs.Readable.{Readable};
 ghost use Rattle.growth.specs.Growth.{growth_of};
 ghost use Rattle.laws.specs.Growths.{IsGrowth};
 

@@ -2,6 +2,9 @@
 // crates below. A law that holds of a function's answer on its own stands beside the equation that says which answer that is.
 #![tactic(auto)]
 
+pub mod any_order;
+pub mod any_worker;
+
 pub mod explanations;
 pub mod figures;
 pub mod growths;

@@ -1,19 +1,19 @@
 // Tables that are no harder than others, and tasks that are gone through in any order.
 ghost use Rattle.std.specs.Prelude.{◌≡◌, ℕ, ◌<◌, length};
-ghost use Rattle.accesses.specs.declared.Access.{Access};
-ghost use Rattle.costs.specs.declared.Single.{Single};
-ghost use Rattle.demand.specs.Demand.{demand_of};
-ghost use Rattle.demand.specs.Terms.{term_in, Handed};
+ghost use Rattle.table.specs.declared.accesses.Access.{Access};
+ghost use Rattle.analysis.specs.declared.costs.Single.{Single};
+ghost use Rattle.search.specs.Demand.{demand_of};
+ghost use Rattle.search.specs.Terms.{term_in, Handed};
 ghost use Rattle.table.specs.Accepted.{AcceptedTable};
 ghost use Rattle.analysis.specs.Analysis.{response_of};
-ghost use Rattle.any_order.specs.Permutations.{EachOnce};
-ghost use Rattle.any_order.specs.Equation.{Arrangement, response_arranged};
+ghost use Rattle.laws.specs.Permutations.{EachOnce};
+ghost use Rattle.laws.specs.Equation.{Arrangement, response_arranged};
 ghost use Rattle.laws.specs.Orders.{EasierRespondsFirst};
 
 use analysis::Method;
-use demand::{Response, Term};
+use search::demand::{Response, Term};
 use table::Table;
-use units::Ticks;
+use cache::units::Ticks;
 
 // The responses of a task of a table, and of one of another table.
 #[derive(Clone, Copy)]

@@ -5,8 +5,8 @@ ghost use Rattle.analysis.specs.Analysis.{response_of};
 ghost use Rattle.laws.specs.Responses.{IsResponse, IsCombined};
 
 use analysis::Method;
-use costs::Single;
-use demand::Response;
+use analysis::costs::Single;
+use search::demand::Response;
 use table::Table;
 
 // The responses of a task by the two unions, and the one that combines them.

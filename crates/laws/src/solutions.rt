@@ -1,12 +1,13 @@
 // The smallest solution of an equation.
 ghost use Rattle.std.specs.Prelude.{◌≡◌, length};
-ghost use Rattle.demand.specs.Demand.{demand_of};
-ghost use Rattle.demand.specs.Terms.{term_in, Handed};
-ghost use Rattle.demand.specs.Least.{least_of};
+ghost use Rattle.search.specs.Demand.{demand_of};
+ghost use Rattle.search.specs.Terms.{term_in, Handed};
+ghost use Rattle.search.specs.Least.{least_of};
 ghost use Rattle.laws.specs.Solutions.{IsSmallest};
 
-use demand::{Response, Term};
-use units::Ticks;
+use search::response;
+use search::demand::{Response, Term};
+use cache::units::Ticks;
 
 // The smallest time up to `limit` that equals its demand, for a task with `own` ticks of its own and with what those above it ask for.
 pub fn smallest(own: Ticks, terms: &[Term], limit: Ticks) -> Response

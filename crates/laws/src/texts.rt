@@ -3,7 +3,7 @@ ghost use Rattle.std.specs.Prelude.{◌≡◌};
 ghost use Rattle.crpd.specs.Operations.{growth_to};
 ghost use Rattle.laws.specs.Texts.{EasierTextRespondsFirst, IsTextGrowth, ComesBack, IsReadAgain};
 
-use demand::Response;
+use search::demand::Response;
 use table::{Refusal, Ruling, Table};
 
 // What two texts are answered.

@@ -2,16 +2,16 @@
 -- Assumes nothing.
 use Rattle.std.proofs.Common.{◌≡◌, ℕ, suc, ◌+◌, ◌≤◌, Bool, true, false, not, cond, List, [], ◌∷◌, length, arith, refl, Result, Ok, Err, length-take, ltb-false, eqb}
 use Rattle.std.proofs.lemmas.List.Sums.{prefix_len-le-length}
-use Rattle.text.specs.Cut.{lead, lines}
-use Rattle.refusals.specs.declared.Reason.{Reason}
-use Rattle.refusals.specs.declared.Refusal.{Refusal}
-use Rattle.refusals.specs.Rows.{Conditions, unless_fault}
-use Rattle.refusals.proofs.RowLaws.{fine-row}
-use Rattle.tasks.specs.HeadLine.{head_rows, head_said}
-use Rattle.tasks.specs.TaskLine.{task_said}
-use Rattle.accesses.specs.AccessLine.{access_said}
+use Rattle.table.specs.Cut.{lead, lines}
+use Rattle.table.specs.declared.refusals.Reason.{Reason}
+use Rattle.table.specs.declared.refusals.Refusal.{Refusal}
+use Rattle.table.specs.Rows.{Conditions, unless_fault}
+use Rattle.table.proofs.RowLaws.{fine-row}
+use Rattle.table.specs.HeadLine.{head_rows, head_said}
+use Rattle.table.specs.TaskLine.{task_said}
+use Rattle.table.specs.AccessLine.{access_said}
 use Rattle.table.specs.declared.Table.{Table}
-use Rattle.table.specs.Tasks.{tasks_of, new_table, with_task, with_access}
+use Rattle.table.specs.Tables.{tasks_of, new_table, with_task, with_access}
 use Rattle.table.specs.Reading.{told, then_read, text_rows, is_task_line, line_rows, with_line, end_rows, is_blocked, ended, read_from, read_lines, read_text}
 
 -- a refusal, if it is one, tells a line up to `most`

@@ -1,6 +1,6 @@
 -- `analysis::by_charges` meets its contract. Assumes nothing.
 use Rattle.std.proofs.Common.{◌∙◌}
-use Rattle.blocked_row.proofs.JoinLaws.{row-few}
+use Rattle.analysis.proofs.JoinLaws.{row-few}
 use Rattle.analysis.proofs.AnswerLaws.{row-handed, least-by-row}
 use Rattle.analysis.proofs.by_charges.Goals as goal
 

@@ -1,8 +1,8 @@
 -- `growth::by_charges` meets its contract. Assumes nothing.
 use Rattle.std.proofs.Common.{◌+◌, ◌/◌, ◌≤◌, sym, ap, ◌∙◌, arith}
-use Rattle.blocked_row.proofs.JoinLaws.{row-few}
-use Rattle.verdicts.specs.Verdicts.{has_response}
-use Rattle.response.proofs.CountLaws.{ones-started}
+use Rattle.analysis.proofs.JoinLaws.{row-few}
+use Rattle.report.specs.Verdicts.{has_response}
+use Rattle.search.proofs.CountLaws.{ones-started}
 use Rattle.growth.proofs.BoundLaws.{bounds-all, spans-none}
 use Rattle.growth.proofs.TriedLaws.{at-limit, stretches-less, tried-handed, tried-demand, tried-least, tried-descends, started-in, started-out, started-ones, started-more}
 use Rattle.growth.proofs.by_charges.Goals as goal

@@ -1,6 +1,6 @@
 -- `laws::explanations::total` meets its contract. Assumes nothing.
 use Rattle.std.proofs.Common.{◌≡◌, ap, ◌∙◌}
-use Rattle.units.specs.declared.Ticks.{Ticks}
+use Rattle.cache.specs.declared.units.Ticks.{Ticks}
 use Rattle.laws.specs.Explanations.{sum_of}
 use Rattle.laws.proofs.ExplanationLaws.{explained-grounds, explained-time, adds-up}
 use Rattle.laws.proofs.explanations.total.Goals as goal

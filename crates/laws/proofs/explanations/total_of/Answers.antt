@@ -1,8 +1,8 @@
 -- `laws::explanations::total_of` meets its contract, one line after the other. Assumes nothing.
 use Rattle.std.proofs.Common.{◌+◌, sym, ap, ◌∙◌, arith, zero-le}
-use Rattle.demand.proofs.PositionLaws.{fold-none, fold_next}
-use Rattle.table.specs.Tasks.{at}
-use Rattle.costs.specs.Costs.{term_with}
+use Rattle.search.proofs.PositionLaws.{fold-none, fold_next}
+use Rattle.table.specs.Tables.{at}
+use Rattle.analysis.specs.Costs.{term_with}
 use Rattle.laws.specs.Explanations.{adds_at}
 use Rattle.laws.proofs.ExplanationLaws.{blocked-short, line-few, line-ranged, line-adds}
 use Rattle.laws.proofs.explanations.total_of.Goals as goal

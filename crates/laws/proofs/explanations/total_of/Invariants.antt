@@ -1,7 +1,7 @@
 -- The total is the sum of the lines so far. Assumes nothing.
 use Rattle.std.proofs.Common.{◌≡◌, ◌+◌, ◌*◌, ◌≤◌}
-use Rattle.demand.specs.Positions.{between, fold}
-use Rattle.table.specs.Tasks.{at}
+use Rattle.search.specs.Positions.{between, fold}
+use Rattle.table.specs.Tables.{at}
 use Rattle.laws.specs.Explanations.{adds_at}
 use Rattle.laws.proofs.explanations.total_of.Given as goal
 

@@ -1,10 +1,10 @@
 -- `laws::orders::demand_in_order` meets its contract. Assumes nothing.
 use Rattle.std.proofs.Common.{ℕ, ◌≡◌, refl, ap, ◌∙◌, length, take, List, arith}
 use Rattle.std.proofs.Math.Seq.{take-length}
-use Rattle.demand.specs.Positions.{fold}
-use Rattle.demand.specs.Terms.{term_in}
-use Rattle.any_order.specs.Equation.{demand_over}
-use Rattle.any_order.proofs.AnyOrder.{demand-each-once}
+use Rattle.search.specs.Positions.{fold}
+use Rattle.search.specs.Terms.{term_in}
+use Rattle.laws.specs.Equation.{demand_over}
+use Rattle.laws.proofs.AnyOrder.{demand-each-once}
 use Rattle.laws.proofs.OrderLaws.{once-below, once-long, demand-over-next}
 use Rattle.laws.proofs.orders.demand_in_order.Goals as goal
 

@@ -1,7 +1,7 @@
 -- The sum is the demand under the terms so far, and each adds so much at the most. Assumes nothing.
 use Rattle.std.proofs.Common.{◌≡◌, ◌+◌, ◌*◌, ◌≤◌, take}
-use Rattle.demand.specs.Terms.{term_in}
-use Rattle.any_order.specs.Equation.{demand_over}
+use Rattle.search.specs.Terms.{term_in}
+use Rattle.laws.specs.Equation.{demand_over}
 use Rattle.laws.proofs.orders.demand_in_order.Given as goal
 
 abbrev pub invariant-loop-j : goal.invariant-loop-j

@@ -1,6 +1,6 @@
 -- `laws::orders::in_any_order` meets its contract. Assumes nothing.
 use Rattle.std.proofs.Common.{sym, ◌∙◌}
-use Rattle.any_order.proofs.AnyOrder.{response-any-order}
+use Rattle.laws.proofs.AnyOrder.{response-any-order}
 use Rattle.laws.proofs.orders.in_any_order.Goals as goal
 
 pub returns : goal.returns

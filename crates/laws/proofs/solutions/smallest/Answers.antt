@@ -1,5 +1,5 @@
 -- `laws::solutions::smallest` meets its contract: the search starts from one activation of each term. Assumes nothing.
-use Rattle.response.proofs.CountLaws.{ones-started}
+use Rattle.search.proofs.CountLaws.{ones-started}
 use Rattle.laws.proofs.SolutionLaws.{is-smallest}
 use Rattle.laws.proofs.solutions.smallest.Goals as goal
 

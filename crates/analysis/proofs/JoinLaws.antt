@@ -1,0 +1,45 @@
+-- A row of charges that an access joins: above its ceiling its UCB is one member more, and from there on nothing changes. Assumes nothing.
+use Rattle.std.proofs.Common.{ℕ, ◌+◌, ◌≤◌, ◌<◌, zero-le, arith, ◌≡◌, refl, sym, ◌∙◌, List, set, get_or-set_other}
+use Rattle.table.specs.declared.accesses.Access.{Access}
+use Rattle.table.specs.declared.Table.{Table}
+use Rattle.analysis.specs.declared.costs.Single.{Single}
+use Rattle.analysis.specs.declared.costs.Charge.{Charge}
+use Rattle.analysis.specs.Costs.{no_victim, reloads_with, ucb_of, ecb_of, charge_at, charge_under, term_under}
+use Rattle.analysis.proofs.CostLaws.{with-most, charge-past}
+use Rattle.table.specs.Accesses.{added_by}
+use Rattle.analysis.specs.Row.{charge_in, Charged}
+use Rattle.analysis.proofs.OneRowLaws.{tells-front}
+use Rattle.analysis.specs.BlockedRow.{ChargedUnder, FewReloads, term_by}
+
+-- from j on the access has joined, and above j the row is as it was
+pub record Joined (table : Table) (a : Access) (m : Single) (i j : ℕ) (row : List Charge) : Type 0 where
+  pub under : ChargedUnder table a m i j row
+  pub rest : (k : ℕ) → k < j → charge_in row k ≡ charge_at table m i k
+
+module _ {table : Table} {a : Access} {m : Single} {i : ℕ} {row : List Charge} where
+  -- from the ceiling on a row without the access serves
+  pub joined-past : (from : ℕ) → from ≤ i → a.ceiling ≤ from → Charged table m i 0 row → Joined table a m i from row
+  joined-past from least h p = record {
+    under = record { long = p.long; each = λ j l b. p.each j zero-le b ∙ sym (charge-past table a m i j (omega arith)) };
+    rest = λ k l. p.each k zero-le (omega arith);
+  }
+
+  pub joined-next : (from j : ℕ) → j < 32 → from ≡ j + 1 → (g : Charge) → g ≡ charge_under table a m i j → Joined table a m i from row
+      → Joined table a m i j (set row j g)
+  joined-next from j few next g here p = record {
+    under = tells-front i from j few next g here p.under;
+    rest = λ k l. get_or-set_other row j k g (no_victim 0) (λ z. omega arith) ∙ p.rest k (omega arith);
+  }
+
+-- the counts of such a row are few, and make the terms
+module _ (table : Table) (a : Access) (m : Single) (i : ℕ) {row : List Charge} (p : ChargedUnder table a m i 0 row) where
+  pub row-few : FewReloads i row
+  unfolding reloads_with
+  row-few = record {
+    long = p.long;
+    few = λ j l. rw (p.each j zero-le l) (with-most (ucb_of table) (ecb_of table) i j (added_by a j) a.task m);
+  }
+
+  pub row-term : (j : ℕ) → j < i → term_by table row j ≡ term_under table a m i j
+  unfolding reloads_with
+  row-term j l = rw (p.each j zero-le l) refl

@@ -1,0 +1,302 @@
+-- How a need is found, and what it says of the response. Assumes nothing.
+use Rattle.std.proofs.Common.{ℕ, ◌+◌, max, ◌≤◌, ◌<◌, arith, ◌≡◌, refl, sym, ap, ap₂, ◌∙◌, Bool, true, false, cond, List, [], ◌∷◌, ◌++◌, map, append-nil, ltb, leb, length, get_or, take, take-suc, add-one, le-leb, ltb-true, ltb-false}
+use Rattle.std.proofs.Math.Decide.{dec_le}
+use Rattle.std.proofs.lemmas.Bool.{lt-leb}
+use Rattle.std.proofs.lemmas.List.{map-append}
+use mathlib.Core.List.{foldl, foldl-append}
+use Rattle.std.specs.Prelude.{Option, Some, None}
+use Rattle.cache.specs.declared.units.Ticks.{Ticks}
+use Rattle.search.specs.declared.demand.Response.{Response}
+use Rattle.search.specs.declared.demand.Response.TheVariants.{Within, Unschedulable}
+use Rattle.search.specs.Least.{least_of, LeastWithin, sooner, later, latest_of}
+use Rattle.search.proofs.LeastLaws.{least_of-least, least-is}
+use Rattle.search.proofs.LaterLaws.{latest-front}
+use Rattle.table.specs.Tasks.{limit_of}
+use Rattle.table.specs.declared.accesses.Access.{Access}
+use Rattle.table.specs.Accesses.{may_block, blocking, or_else, plain_access, empty_access}
+use Rattle.table.proofs.BlockingLaws.{Every, blocking-snoc}
+use Rattle.table.specs.declared.Table.{Table}
+use Rattle.table.specs.Tables.{at, accesses_of}
+use Rattle.table.specs.Accepted.{AcceptedTable}
+use Rattle.analysis.specs.Analysis.{blockers_of, least_under, answer_of, response_of}
+use Rattle.analysis.specs.declared.costs.Single.{Single}
+use Rattle.analysis.specs.declared.costs.Single.TheVariants.{UcbUnion, EcbUnion}
+use Rattle.analysis.specs.declared.Method.{Method}
+use Rattle.analysis.specs.declared.Method.TheVariants.{Of, Combined}
+use Rattle.analysis.specs.declared.need.Need.{Need}
+use Rattle.analysis.specs.Needs.{is_sooner, need_with, larger_need, larger_of_some, largest_need, needed_of, smaller_of, need_of}
+
+-- what holds of what is needed under each method that counts holds of the need that is explained
+pub need-by : (P : Need → Type 0) (table : Table) (i : ℕ) (m : Method) → ((k : Single) → P (needed_of table k i)) → P (need_of table m i)
+unfolding need_of
+need-by P table i (Of m) each = each m
+need-by P table i Combined each = union (is_sooner (needed_of table UcbUnion i).time (needed_of table EcbUnion i).time)
+  where
+    union : (t : Bool) → P (cond t (needed_of table UcbUnion i) (needed_of table EcbUnion i))
+    union true = each UcbUnion
+    union false = each EcbUnion
+
+-- ---- over the accesses that may block, one after the other
+
+-- the largest over some accesses, if there are some
+abbrev pub largest_some : (Access → Need) → List Access → Option Need
+largest_some W [] = None
+largest_some W (a ∷ l) = Some (largest_need W (a ∷ l))
+
+larger-self : (a : Need) → larger_need a a ≡ a
+larger-self a = pick (is_sooner a.time a.time)
+  where
+    pick : (t : Bool) → cond t a a ≡ a
+    pick true = refl
+    pick false = refl
+
+pub largest-one : (W : Access → Need) (a : Access) → largest_need W (a ∷ []) ≡ W a
+largest-one W a = larger-self (W a)
+
+-- one more at the end
+pub largest-next : (W : Access → Need) (l : List Access) (a : Access) → Some (larger_of_some (largest_some W l) (W a)) ≡ largest_some W (l ++ (a ∷ []))
+largest-next W [] a = ap Some (sym (largest-one W a))
+largest-next W (b ∷ l) a =
+    ap Some (
+    sym (foldl-append larger_need (W b) (map W (b ∷ l)) (W a ∷ []))
+    ∙ ap (λ (ns : List Need). foldl larger_need (W b) ns) (sym (map-append W (b ∷ l) (a ∷ [])))
+    )
+
+-- what was found over all that may block the task
+module _ (table : Table) (m : Single) (i : ℕ) where
+  abbrev W : Access → Need
+  W = need_with (λ a. least_under table a m i 250000000) m
+
+  pub some-needed : (need : Need) → Some need ≡ largest_some W (blocking i (accesses_of table)) → need ≡ needed_of table m i
+  unfolding needed_of
+  some-needed need e = go (blocking i (accesses_of table)) e
+    where
+      go : (l : List Access) → Some need ≡ largest_some W l → need ≡ largest_need W (or_else (plain_access (at table i)) l)
+      go [] e = cc
+      go (a ∷ l) e = cc
+
+  pub none-needed : None ≡ largest_some W (blocking i (accesses_of table)) → W (plain_access (at table i)) ≡ needed_of table m i
+  unfolding needed_of
+  none-needed e = go (blocking i (accesses_of table)) e
+    where
+      go : (l : List Access) → None ≡ largest_some W l → W (plain_access (at table i)) ≡ largest_need W (or_else (plain_access (at table i)) l)
+      go [] e = sym (largest-one W (plain_access (at table i)))
+      go (a ∷ l) e = cc
+
+  -- the accesses one after the other
+  module _ (n : ℕ) (few : n < length table.accesses) {so_far : Option Need} (p : so_far ≡ largest_some W (blocking i (take n table.accesses))) where
+    next : blocking i (take (n + 1) table.accesses)
+        ≡ blocking i (take n table.accesses) ++ cond (may_block i (get_or table.accesses n empty_access)) (get_or table.accesses n empty_access ∷ []) []
+    next = rw (add-one, take-suc table.accesses n empty_access few) (blocking-snoc i (take n table.accesses) (get_or table.accesses n empty_access))
+
+    pub needed-yes : may_block i (get_or table.accesses n empty_access) ≡ true → (need : Need) → need ≡ larger_of_some so_far (W (get_or table.accesses n empty_access))
+        → Some need ≡ largest_some W (blocking i (take (n + 1) table.accesses))
+    needed-yes e need is =
+        let more : blocking i (take (n + 1) table.accesses) ≡ blocking i (take n table.accesses) ++ (get_or table.accesses n empty_access ∷ []) = rw e at next in
+        rw (more, is, p) (largest-next W (blocking i (take n table.accesses)) (get_or table.accesses n empty_access))
+
+    pub needed-no : may_block i (get_or table.accesses n empty_access) ≡ false → so_far ≡ largest_some W (blocking i (take (n + 1) table.accesses))
+    needed-no e =
+        let same : blocking i (take (n + 1) table.accesses) ≡ blocking i (take n table.accesses) = rw e at next ∙ append-nil (blocking i (take n table.accesses)) in
+        rw same p
+
+-- what holds of each need holds of the largest
+pub largest-by : (P : Need → Type 0) (W : Access → Need) (l : List Access) → 1 ≤ length l → Every (λ a. P (W a)) l → P (largest_need W l)
+largest-by P W [] h p = absurd (omega arith)
+largest-by P W (a ∷ l) h p = go l (larger_need (W a) (W a)) (either (W a) (W a) p.0 p.0) p.1
+  where
+    either : (x y : Need) → P x → P y → P (larger_need x y)
+    either x y q r = pick (is_sooner x.time y.time)
+      where
+        pick : (t : Bool) → P (cond t y x)
+        pick true = r
+        pick false = q
+
+    go : (r : List Access) (z : Need) → P z → Every (λ b. P (W b)) r → P (foldl larger_need z (map W r))
+    go [] z q e = q
+    go (b ∷ r) z q e = go r (larger_need z (W b)) (either z (W b) q e.0) e.1
+
+-- its time is the latest
+larger-time : (a b : Need) → (larger_need a b).time ≡ later a.time b.time
+larger-time a b = pick (is_sooner a.time b.time) ∙ time a.time b.time
+  where
+    pick : (t : Bool) → (cond t b a).time ≡ cond t b.time a.time
+    pick true = refl
+    pick false = refl
+
+    within : (x y : Ticks) (t : Bool) → ltb x.0 y.0 ≡ t → cond t (Within y) (Within x) ≡ later (Within x) (Within y)
+    within x y true e = let l = ltb-true x.0 y.0 e in ap (λ (n : ℕ). Within (record { 0 = n })) (omega arith)
+    within x y false e = let l = ltb-false x.0 y.0 e in ap (λ (n : ℕ). Within (record { 0 = n })) (omega arith)
+
+    time : (r s : Response) → cond (is_sooner r s) s r ≡ later r s
+    time (Within x) (Within y) = within x y (ltb x.0 y.0) refl
+    time (Within x) Unschedulable = refl
+    time Unschedulable s = refl
+
+later-self : (r : Response) → later r r ≡ r
+later-self (Within x) = ap (λ (n : ℕ). Within (record { 0 = n })) (omega arith)
+later-self Unschedulable = refl
+
+largest-time : (W : Access → Need) (l : List Access) → 1 ≤ length l → (largest_need W l).time ≡ latest_of (map (λ a. (W a).time) l)
+largest-time W [] h = absurd (omega arith)
+largest-time W (a ∷ l) h =
+    go l (larger_need (W a) (W a))
+    ∙ ap (λ (r : Response). foldl later r (map (λ a. (W a).time) l)) (larger-time (W a) (W a) ∙ later-self (W a).time ∙ sym (first (W a).time))
+  where
+    first : (r : Response) → later (Within (record { 0 = 0 })) r ≡ r
+    first (Within x) = ap (λ (n : ℕ). Within (record { 0 = n })) (omega arith)
+    first Unschedulable = refl
+
+    go : (r : List Access) (z : Need) → (foldl larger_need z (map W r)).time ≡ foldl later z.time (map (λ a. (W a).time) r)
+    go [] z = refl
+    go (b ∷ r) z = go r (larger_need z (W b)) ∙ ap (λ (t : Response). foldl later t (map (λ a. (W a).time) r)) (larger-time z (W b))
+
+-- ---- a response is the need, where that is within the limit
+
+abbrev within_limit : ℕ → Response → Response
+within_limit limit (Within R) = cond (leb R.0 limit) (Within R) Unschedulable
+within_limit limit Unschedulable = Unschedulable
+
+within : (limit : ℕ) (R : Ticks) → R.0 ≤ limit → within_limit limit (Within R) ≡ Within R
+within limit R h = simp (le-leb _ _ h)
+
+past : (limit : ℕ) (R : Ticks) → limit < R.0 → within_limit limit (Within R) ≡ Unschedulable
+past limit R h = simp (lt-leb _ _ h)
+
+-- a search within a limit finds what one within a larger limit finds, where that is within the smaller
+least-cut : (f : ℕ → ℕ) (limit most : ℕ) → limit ≤ most → within_limit limit (least_of f most) ≡ least_of f limit
+unfolding LeastWithin
+least-cut f limit most h = go (least_of f most) (least_of-least f most)
+  where
+    go : (a : Response) → LeastWithin f most a → within_limit limit a ≡ least_of f limit
+    go (Within R) p =
+        elim (dec_le R.0 limit) [
+          | yes l ↦ within limit R l ∙ least-is f limit (Within R) (l, p.1, p.2)
+          | no l ↦ past limit R (omega arith) ∙ least-is f limit Unschedulable (λ s e k. l (omega (arith, p.2 s e)))
+        ]
+    go Unschedulable p = least-is f limit Unschedulable (λ s e k. p s e (omega arith))
+
+-- the sooner of two within a limit is the smaller, where that is within the limit
+sooner-cut : (limit : ℕ) (a b : Response) → sooner (within_limit limit a) (within_limit limit b) ≡ within_limit limit (cond (is_sooner a b) a b)
+sooner-cut limit (Within x) (Within y) = go (ltb x.0 y.0) refl
+  where
+    first : x.0 < y.0 → sooner (within_limit limit (Within x)) (within_limit limit (Within y)) ≡ within_limit limit (Within x)
+    first h =
+        elim (dec_le x.0 limit) [
+          | yes l ↦
+              elim (dec_le y.0 limit) [
+                | yes k ↦ rw (within limit x l, within limit y k) (ap (λ (n : ℕ). Within (record { 0 = n })) (omega arith))
+                | no k ↦ rw (within limit x l, past limit y (omega arith))
+              ]
+          | no l ↦ rw (past limit x (omega arith), past limit y (omega arith))
+        ]
+
+    second : y.0 ≤ x.0 → sooner (within_limit limit (Within x)) (within_limit limit (Within y)) ≡ within_limit limit (Within y)
+    second h =
+        elim (dec_le y.0 limit) [
+          | yes l ↦
+              elim (dec_le x.0 limit) [
+                | yes k ↦ rw (within limit x k, within limit y l) (ap (λ (n : ℕ). Within (record { 0 = n })) (omega arith))
+                | no k ↦ rw (past limit x (omega arith), within limit y l)
+              ]
+          | no l ↦ rw (past limit x (omega arith), past limit y (omega arith))
+        ]
+
+    go : (t : Bool) → ltb x.0 y.0 ≡ t → sooner (within_limit limit (Within x)) (within_limit limit (Within y)) ≡ within_limit limit (cond t (Within x) (Within y))
+    go true e = first (ltb-true _ _ e)
+    go false e = second (ltb-false _ _ e)
+sooner-cut limit (Within x) Unschedulable = sooner-none (within_limit limit (Within x))
+  where
+    sooner-none : (a : Response) → sooner a Unschedulable ≡ a
+    sooner-none (Within x) = refl
+    sooner-none Unschedulable = refl
+sooner-cut limit Unschedulable b = refl
+
+-- what a limit lets pass is what was there, and within the limit
+passed : (limit : ℕ) (a : Response) (R : Ticks) → within_limit limit a ≡ Within R → (a ≡ Within R) × (R.0 ≤ limit)
+passed limit (Within x) R e =
+    elim (dec_le x.0 limit) [
+      | yes l ↦
+          let same : Within x ≡ Within R = sym (within limit x l) ∙ e in
+          let n : x.0 ≡ R.0 = cc in
+          (same, omega arith)
+      | no l ↦
+          let none : Unschedulable ≡ Within R = sym (past limit x (omega arith)) ∙ e in
+          let z : ◌≡◌ {A = ℕ} 0 1 = cc in
+          absurd (omega arith)
+    ]
+passed limit Unschedulable R e = let z : ◌≡◌ {A = ℕ} 0 1 = cc in absurd (omega arith)
+
+smaller-time : (a b : Need) → (smaller_of a b).time ≡ cond (is_sooner a.time b.time) a.time b.time
+smaller-time a b = go (is_sooner a.time b.time)
+  where
+    go : (t : Bool) → (cond t a b).time ≡ cond t a.time b.time
+    go true = refl
+    go false = refl
+
+-- the later of two within a limit is the later, where that is within the limit
+later-cut : (limit : ℕ) (a b : Response) → later (within_limit limit a) (within_limit limit b) ≡ within_limit limit (later a b)
+later-cut limit (Within x) (Within y) =
+    elim (dec_le x.0 limit) [
+      | yes l ↦
+          elim (dec_le y.0 limit) [
+            | yes k ↦ rw (within limit x l, within limit y k, within limit (record { 0 = max x.0 y.0 }) (omega arith))
+            | no k ↦ rw (within limit x l, past limit y (omega arith), past limit (record { 0 = max x.0 y.0 }) (omega arith))
+          ]
+      | no l ↦ rw (past limit x (omega arith), past limit (record { 0 = max x.0 y.0 }) (omega arith))
+    ]
+later-cut limit (Within x) Unschedulable = none (within_limit limit (Within x))
+  where
+    none : (r : Response) → later r Unschedulable ≡ Unschedulable
+    none (Within x) = refl
+    none Unschedulable = refl
+later-cut limit Unschedulable b = refl
+
+latest-cut : (limit : ℕ) (A B : Access → Response) → ((a : Access) → within_limit limit (A a) ≡ B a) → (l : List Access)
+    → within_limit limit (latest_of (map A l)) ≡ latest_of (map B l)
+latest-cut limit A B e [] = within limit (record { 0 = 0 }) (omega arith)
+latest-cut limit A B e (a ∷ l) =
+    ap (within_limit limit) (latest-front (A a) (map A l))
+    ∙ sym (later-cut limit (A a) (latest_of (map A l)))
+    ∙ ap₂ later (e a) (latest-cut limit A B e l)
+    ∙ sym (latest-front (B a) (map B l))
+
+-- something may block each task
+pub blockers-some : (table : Table) (i : ℕ) → 1 ≤ length (blockers_of table i)
+blockers-some table i = go (blocking i (accesses_of table))
+  where
+    go : (l : List Access) → 1 ≤ length (or_else (plain_access (at table i)) l)
+    go [] = omega arith
+    go (a ∷ l) = omega arith
+
+module _ (table : Table) (accepted : AcceptedTable table) (i : ℕ) (held : i < table.count) where
+  abbrev limit : ℕ
+  limit = limit_of (at table i)
+
+  abbrev needed : Single → Need
+  needed m = needed_of table m i
+
+  answer-cut : (m : Single) → within_limit limit (needed m).time ≡ answer_of table m i
+  unfolding needed_of answer_of
+  answer-cut m =
+      let q = accepted.tasks i held in
+      ap (within_limit limit) (largest-time _ (blockers_of table i) (blockers-some table i))
+      ∙ latest-cut limit (λ a. least_under table a m i 250000000) (λ a. least_under table a m i limit)
+      (λ a. least-cut _ limit 250000000 (omega (arith, q.deadline, q.period))) (blockers_of table i)
+
+  response-cut : (m : Method) → within_limit limit (need_of table m i).time ≡ response_of table m i
+  unfolding need_of response_of
+  response-cut (Of m) = answer-cut m
+  response-cut Combined =
+      ap (within_limit limit) (smaller-time (needed UcbUnion) (needed EcbUnion))
+      ∙ sym (sooner-cut limit (needed UcbUnion).time (needed EcbUnion).time)
+      ∙ ap₂ sooner (answer-cut UcbUnion) (answer-cut EcbUnion)
+
+  module _ (m : Method) (R : Ticks) where
+    -- where the task has a response, under any method, the need is that response, and within the limit
+    pub response-needed : response_of table m i ≡ Within R → ((need_of table m i).time ≡ Within R) × (R.0 ≤ limit)
+    response-needed e = passed limit _ R (response-cut m ∙ e)
+
+    -- and a need within the limit is the response
+    pub need-responds : (need_of table m i).time ≡ Within R → R.0 ≤ limit → response_of table m i ≡ Within R
+    need-responds e h = sym (response-cut m) ∙ rw e (within limit R h)

@@ -1,0 +1,273 @@
+-- Facts about the searches of one row. Assumes nothing.
+use Rattle.std.proofs.Common.{ℕ, ◌+◌, ◌≤◌, ◌<◌, zero-le, mul-le-mul_left, arith, ◌≡◌, refl, sym, ap, subst, ◌∙◌, Bool, true, false, List, length, get_or, set, take, get_or-take, length-take-le}
+use Rattle.cache.specs.Sets.{Set}
+use Rattle.search.specs.declared.demand.Response.{Response}
+use Rattle.search.specs.declared.demand.Response.TheVariants.{Within, Unschedulable}
+use Rattle.search.specs.declared.demand.Row.{Row}
+use Rattle.search.specs.Demand.{term_of, demand_of, NoMore}
+use Rattle.search.specs.Terms.{term_in, InRange, Handed}
+use Rattle.search.specs.Least.{least_of, later, NoLater}
+use Rattle.search.proofs.LeastLaws.{least_of-no-later}
+use Rattle.search.proofs.SoonerLaws.{none-latest}
+use Rattle.search.proofs.LaterLaws.{later-mono, latest-one}
+use Rattle.search.proofs.DemandLaws.{no-more-self, demand-same, demand-mono, demand-more}
+use Rattle.search.specs.declared.response.Count.{Count}
+use Rattle.search.specs.Counts.{once, Started}
+use Rattle.search.proofs.CountLaws.{started-same, started-next, started-harder}
+use Rattle.table.specs.Tasks.{own_of, limit_of}
+use Rattle.table.specs.declared.accesses.Access.{Access}
+use Rattle.table.specs.Accesses.{may_block, added_by, plain_access, empty_access}
+use Rattle.table.specs.declared.Table.{Table}
+use Rattle.table.specs.Tables.{at}
+use Rattle.table.specs.Accepted.{AcceptedTable}
+use Rattle.analysis.specs.declared.costs.Single.{Single}
+use Rattle.analysis.specs.declared.costs.Single.TheVariants.{None, EcbOnly, UcbOnly, UcbUnion, EcbUnion}
+use Rattle.analysis.specs.Costs.{reloads_of, reloads_with, ucb_of, ecb_of, term_under}
+use Rattle.analysis.proofs.OrderLaws.{ucb-union-with, ecb-union-with, term-ranged}
+use Rattle.analysis.specs.declared.carried.Column.{Column}
+use Rattle.analysis.specs.declared.carried.Terms.{Terms}
+use Rattle.analysis.specs.Carried.{terms_for, Long, Ledger, Weighed, WeighedUnder}
+use Rattle.analysis.proofs.TermLaws.{has-none, joined}
+use Rattle.analysis.proofs.AnswerLaws.{Over, over-none, over-yes, over-no, over-all, over-plain}
+use Rattle.analysis.specs.Analysis.{least_under, response_of, Blocks}
+use Rattle.analysis.specs.declared.rows.Answers.{Answers}
+use Rattle.analysis.specs.Rows.{answer_in, Answered, cheaper, Rising, WithOne, row_told, plain_of, Left, row_of}
+
+-- ---- a cheaper method asks for no more
+
+cheaper-reloads : (U E : ℕ → Set) (X : Set) (n i j : ℕ) (m : Single) → reloads_with U E X n (cheaper m) i j ≤ reloads_with U E X n m i j
+unfolding reloads_with
+cheaper-reloads U E X n i j None = omega arith
+cheaper-reloads U E X n i j EcbOnly = ucb-union-with U E X n i j
+cheaper-reloads U E X n i j UcbOnly = ecb-union-with U E X n i j
+cheaper-reloads U E X n i j UcbUnion = omega arith
+cheaper-reloads U E X n i j EcbUnion = omega arith
+
+-- without reloads a task asks for its work
+pub plain-term : (table : Table) (a : Access) (i j : ℕ) → plain_of table j ≡ term_under table a None i j
+unfolding reloads_with
+plain-term table a i j = refl
+
+pub plain-ranged : (table : Table) (i : ℕ) → AcceptedTable table → i < table.count → (j : ℕ) → j < i → InRange (plain_of table j)
+plain-ranged table i accepted here j l =
+    let a = plain_access (at table i) in rw (plain-term table a i j) (term-ranged table a None i j accepted (omega arith))
+
+module _ (table : Table) (a : Access) (i : ℕ) (accepted : AcceptedTable table) (here : i < table.count) where
+  ranged : (m : Single) (j : ℕ) → j < i → InRange (term_under table a m i j)
+  ranged m j l = term-ranged table a m i j accepted (omega arith)
+
+  no_more : (m : Single) (j : ℕ) → j < i → NoMore (term_under table a (cheaper m) i j) (term_under table a m i j)
+  no_more m j l = record {
+    live = (ranged m j l).period;
+    period = omega arith;
+    jitter = omega arith;
+    weight = omega (arith, mul-le-mul_left table.brt.0 (cheaper-reloads (ucb_of table) (ecb_of table) (added_by a j) a.task i j m));
+  }
+
+  pub no-later : (m : Single) (limit : ℕ) → NoLater (least_under table a (cheaper m) i limit) (least_under table a m i limit)
+  no-later m limit =
+      least_of-no-later _ (demand-mono _ i _ (ranged (cheaper m))) _ (demand-more _ _ i _ _ (omega arith) (no_more m)) limit limit (omega arith)
+
+  started-after : (m : Single) (own : ℕ) {counts : List Count} → Started own (term_under table a (cheaper m) i) i counts → Started own (term_under table a m i) i counts
+  started-after m own = started-harder own own i _ _ _ (ranged (cheaper m)) (no_more m) (λ j l. (refl, refl)) (omega arith)
+
+  -- ---- by the terms of the row
+
+  module _ (blocks : Blocks i a) (r : Terms) (weighed : WeighedUnder table a i r) where
+    long : (m : Single) → length (take i (terms_for m r)) ≡ i
+    long m = length-take-le i (terms_for m r) (omega (arith, weighed.long.each m, accepted.few))
+
+    term-at : (m : Single) (j : ℕ) → j < i → term_in (take i (terms_for m r)) j ≡ term_under table a m i j
+    term-at m j l = get_or-take i (terms_for m r) j (term_of 0 0 0) l ∙ weighed.terms.each m j zero-le l
+
+    pub row-handed : (m : Single) → Handed ((at table i).work.0 + a.lasts.0) (take i (terms_for m r)) (limit_of (at table i))
+    row-handed m =
+        let q = accepted.tasks i here in
+        record {
+          few = rw (long m) (omega (arith, accepted.few));
+          own-least = omega (arith, q.work);
+          own-most = omega (arith, q.work, blocks.lasts);
+          time = omega (arith, q.deadline, q.period);
+          ranged = λ j l. let k : j < i = omega (arith, long m) in rw (term-at m j k) (ranged m j k);
+        }
+
+    abbrev pub found : Single → Response
+    found m =
+        least_of (demand_of ((at table i).work.0 + a.lasts.0) (term_in (take i (terms_for m r))) (length (take i (terms_for m r)))) (limit_of (at table i))
+
+    pub row-answer : (m : Single) → found m ≡ least_under table a m i (limit_of (at table i))
+    row-answer m =
+        ap (λ (n : ℕ). least_of (demand_of ((at table i).work.0 + a.lasts.0) (term_in (take i (terms_for m r))) n) (limit_of (at table i))) (long m)
+        ∙ ap (λ (f : ℕ → ℕ). least_of f (limit_of (at table i))) (demand-same ((at table i).work.0 + a.lasts.0) _ _ i (term-at m))
+
+    abbrev pub HandedTo : Single → List Count → Type 0
+    HandedTo m counts = Started ((at table i).work.0 + a.lasts.0) (term_in (take i (terms_for m r))) (length (take i (terms_for m r))) counts
+
+    started-in : (m : Single) {counts : List Count} → Started ((at table i).work.0 + a.lasts.0) (term_under table a m i) i counts → HandedTo m counts
+    started-in m p = rw (long m) (started-same _ i _ _ _ (λ j l. sym (term-at m j l)) p)
+
+    started-out : (m : Single) {counts : List Count} → HandedTo m counts → Started ((at table i).work.0 + a.lasts.0) (term_under table a m i) i counts
+    started-out m p = started-same _ i _ _ _ (term-at m) (rw (long m) at p)
+
+    -- the search without reloads goes on from the row above, and each other one from a cheaper one
+    pub first : {counts : List Count} → Started ((at table i).work.0 + a.lasts.0) (plain_of table) i counts → HandedTo None counts
+    first p = started-in None (started-same _ i _ _ _ (λ j l. plain-term table a i j) p)
+
+    pub left : {counts : List Count} → HandedTo None counts → Started ((at table i).work.0 + a.lasts.0) (plain_of table) i counts
+    left p = started-same _ i _ _ _ (λ j l. sym (plain-term table a i j)) (started-out None p)
+
+    pub next : (m : Single) {counts : List Count} → HandedTo (cheaper m) counts → HandedTo m counts
+    next m p = started-in m (started-after m _ (started-out (cheaper m) p))
+
+    module _ (s : Answers) (rising : Rising s) where
+      -- where a cheaper method has none there is none
+      pub dearer : (m : Single) (known : Response) → known ≡ later (answer_in (cheaper m) s) (found (cheaper m)) → known ≡ Unschedulable
+          → Unschedulable ≡ later (answer_in m s) (found m)
+      dearer m known is e =
+          let n : NoLater (found (cheaper m)) (found m) = rw (row-answer (cheaper m), row-answer m) (no-later m (limit_of (at table i))) in
+          none-latest _ _ (later-mono _ _ _ _ (rising.each m) n) (sym e ∙ is)
+
+      pub with-one : (t : Answers) → t.none ≡ later s.none (found None) → t.ecb_only ≡ later s.ecb_only (found EcbOnly)
+          → t.ucb_only ≡ later s.ucb_only (found UcbOnly) → t.ucb_union ≡ later s.ucb_union (found UcbUnion)
+          → t.ecb_union ≡ later s.ecb_union (found EcbUnion) → WithOne table a i s t
+      with-one t p0 p1 p2 p3 p4 = record { each = go }
+        where
+          go : (m : Single) → answer_in m t ≡ later (answer_in m s) (least_under table a m i (limit_of (at table i)))
+          go None = p0 ∙ ap (later s.none) (row-answer None)
+          go EcbOnly = p1 ∙ ap (later s.ecb_only) (row-answer EcbOnly)
+          go UcbOnly = p2 ∙ ap (later s.ucb_only) (row-answer UcbOnly)
+          go UcbUnion = p3 ∙ ap (later s.ucb_union) (row-answer UcbUnion)
+          go EcbUnion = p4 ∙ ap (later s.ecb_union) (row-answer EcbUnion)
+
+  -- with one access more the answers still rise
+  pub rising-next : (s t : Answers) → Rising s → WithOne table a i s t → Rising t
+  rising-next s t p w = record {
+    each = λ m. rw (w.each (cheaper m), w.each m) (later-mono _ _ _ _ (p.each m) (no-later m (limit_of (at table i))));
+  }
+
+-- ---- what may block the task
+
+-- before any access
+abbrev pub first_answers : Answers
+first_answers = record {
+  none = Within (record { 0 = 0 });
+  ecb_only = Within (record { 0 = 0 });
+  ucb_only = Within (record { 0 = 0 });
+  ucb_union = Within (record { 0 = 0 });
+  ecb_union = Within (record { 0 = 0 });
+}
+
+first-is : (m : Single) → answer_in m first_answers ≡ Within (record { 0 = 0 })
+first-is None = refl
+first-is EcbOnly = refl
+first-is UcbOnly = refl
+first-is UcbUnion = refl
+first-is EcbUnion = refl
+
+pub rising-first : Rising first_answers
+unfolding NoLater
+rising-first = record { each = λ m. rw (first-is (cheaper m), first-is m) (omega arith) }
+
+-- B as an access adds nothing
+pub weighed-plain : (table : Table) (a : Access) (i : ℕ) (r : Terms) → a.ceiling ≡ 0 → Weighed table i r → WeighedUnder table a i r
+weighed-plain table a i r e p = joined table a i 0 r (omega arith) p.long (has-none _ _) p.terms
+
+-- counts to start from serve for more of the task's own
+pub plain-longer : (table : Table) (i c d : ℕ) {counts : List Count} → AcceptedTable table → i < table.count → c ≤ d
+    → Started c (plain_of table) i counts → Started d (plain_of table) i counts
+plain-longer table i c d accepted here h =
+    started-harder c d i _ _ _ (plain-ranged table i accepted here) (λ j l. no-more-self _ (plain-ranged table i accepted here j l)) (λ j l. (refl, refl)) h
+
+-- after the first n accesses: the answers over those that may block, and whether any may
+pub record Passed (table : Table) (i n : ℕ) (s : Answers) (some : Bool) : Type 0 where
+  pub over : (m : Single) → Over (λ a. least_under table a m i (limit_of (at table i))) i table.accesses n (answer_in m s) some
+  pub rising : Rising s
+
+module _ (table : Table) (i : ℕ) where
+  pub passed-none : Passed table i 0 first_answers false
+  passed-none = record { over = λ m. rw (first-is m) over-none; rising = rising-first }
+
+  pub passed-all : table.access_count ≡ 0 → Passed table i table.access_count first_answers false
+  passed-all e = subst (λ (n : ℕ). Passed table i n first_answers false) (sym e) passed-none
+
+  module _ (accepted : AcceptedTable table) (here : i < table.count) (n : ℕ) (some : Bool) (few : n < table.access_count) {s : Answers} (p : Passed table i n s some) where
+    within : n < length table.accesses
+    within = omega (arith, accepted.listed)
+
+    pub passed-yes : may_block i (get_or table.accesses n empty_access) ≡ true → {t : Answers}
+        → WithOne table (get_or table.accesses n empty_access) i s t → Passed table i (n + 1) t true
+    passed-yes e w = record {
+      over = λ m. over-yes n _ some within (p.over m) e _ (w.each m);
+      rising = rising-next table _ i accepted here _ _ p.rising w;
+    }
+
+    pub passed-no : may_block i (get_or table.accesses n empty_access) ≡ false → Passed table i (n + 1) s some
+    passed-no e = record { over = λ m. over-no n _ some within (p.over m) e; rising = p.rising }
+
+  module _ {some : Bool} {s : Answers} (p : Passed table i table.access_count s some) where
+    pub answered-all : some ≡ true → Answered table i s
+    answered-all e = record { each = λ m. over-all table m i (p.over m) e }
+
+    pub answered-plain : some ≡ false → {r : Answers} → WithOne table (plain_access (at table i)) i first_answers r → Answered table i r
+    answered-plain e w = record {
+      each = λ m. w.each m ∙ rw (first-is m) (latest-one (least_under table (plain_access (at table i)) m i (limit_of (at table i)))) ∙ over-plain table m i (p.over m) e;
+    }
+
+-- ---- on from the task above
+
+none-at : (table : Table) (i : ℕ) (r : Terms) → Weighed table i r → (j : ℕ) → j < i → term_in r.none j ≡ plain_of table j
+unfolding reloads_of
+none-at table i r p j l = p.terms.each None j zero-le l
+
+module _ (table : Table) (i : ℕ) (accepted : AcceptedTable table) (here : i < table.count) where
+  pub none-ranged : (r : Terms) → Weighed table i r → (j : ℕ) → j < i → InRange (term_in r.none j)
+  none-ranged r p j l = rw (none-at table i r p j l) (plain-ranged table i accepted here j l)
+
+  -- where the work of the task above makes up for what it is blocked for longer
+  pub carried_on : (r : Terms) → Weighed table i r → (counts : List Count) (c : Count) (k : ℕ) → i ≡ k + 1
+      → own_of (at table k) ≤ own_of (at table i) + (at table k).work.0 → c ≡ once (term_in r.none k) → Left table i counts
+      → Started (own_of (at table i)) (plain_of table) i (set counts k c)
+  carried_on r p counts c k e enough is left =
+      let q = accepted.tasks i here in
+      let new : c ≡ once (plain_of table k) = is ∙ ap once (none-at table i r p k (omega arith)) in
+      rw new (
+      subst (λ (n : ℕ). Started (own_of (at table i)) (plain_of table) n (set counts k (once (plain_of table k)))) (sym e)
+      (started-next _ _ k (plain_of table) counts (omega (arith, left.long, accepted.few)) (omega (arith, q.work)) (omega arith)
+      (λ j l. plain-ranged table i accepted here j (omega arith)) (left.above k e))
+      )
+
+-- ---- all rows
+
+pub row-is : (table : Table) (i : ℕ) (s : Answers) (r : Row) → Answered table i s → r.responses ≡ row_told s → r ≡ row_of table i
+unfolding response_of
+row-is table i s r p e =
+    let a = p.each None in
+    let b = p.each EcbOnly in
+    let c = p.each UcbOnly in
+    let d = p.each UcbUnion in
+    let f = p.each EcbUnion in
+    ap (λ (rs : List Response). record { responses = rs }) (e ∙ cc)
+
+-- before the first row
+pub left-none : (table : Table) (counts : List Count) → length counts ≡ 32 → Left table 0 counts
+left-none table counts h = record { long = h; above = λ k e. absurd (omega arith) }
+
+pub left-next : (table : Table) (i : ℕ) (counts : List Count) → length counts ≡ 32 → Started (own_of (at table i)) (plain_of table) i counts
+    → Left table (i + 1) counts
+left-next table i counts h p = record {
+  long = h;
+  above = λ k e. let same : k ≡ i = omega arith in rw same p;
+}
+
+pub ledger-none : (table : Table) (l : List Column) → length l ≡ 32 → Ledger table 0 l
+ledger-none table l h = record { long = h; columns = λ j b. absurd (omega arith) }
+
+pub long-none : (r : Terms) → length r.none ≡ 32 → length r.ecb_only ≡ 32 → length r.ucb_only ≡ 32 → length r.ucb_union ≡ 32 → length r.ecb_union ≡ 32 → Long r
+long-none r a b c d e = record { each = go }
+  where
+    go : (m : Single) → length (terms_for m r) ≡ 32
+    go None = a
+    go EcbOnly = b
+    go UcbOnly = c
+    go UcbUnion = d
+    go EcbUnion = e

@@ -1,0 +1,7 @@
+-- `blocked_row::ecb_union` meets its contract. Assumes nothing.
+use Rattle.std.proofs.Common.{arith}
+use Rattle.analysis.proofs.JoinLaws.{joined-past}
+use Rattle.analysis.proofs.blocked_row.ecb_union.Goals as goal
+
+pub loop-j-init : goal.loop-j-init
+loop-j-init c = joined-past c.args.access.ceiling c.requires.0 (omega arith) c.requires.3

@@ -1,0 +1,7 @@
+-- The loop's invariant: the charges from j on are those with the access.
+use Rattle.analysis.specs.declared.costs.Single.TheVariants.{EcbUnion}
+use Rattle.analysis.proofs.JoinLaws.{Joined}
+use Rattle.analysis.proofs.blocked_row.ecb_union.Given as goal
+
+abbrev pub invariant-loop-j : goal.invariant-loop-j
+invariant-loop-j l = Joined l.table l.fn.access EcbUnion l.i l.j l.row

@@ -1,0 +1,15 @@
+-- The loop's invariant: the charges from j on are in the row, and `all` is the union of the UCBs below j.
+use Rattle.std.proofs.Common.{◌≡◌, ◌+◌}
+use Rattle.cache.specs.Words.{members}
+use Rattle.search.specs.Positions.{between}
+use Rattle.analysis.specs.declared.costs.Single.TheVariants.{UcbUnion}
+use Rattle.analysis.specs.Gather.{union_of}
+use Rattle.analysis.specs.Costs.{ucb_of}
+use Rattle.analysis.specs.BlockedRow.{ChargedUnder}
+use Rattle.analysis.proofs.blocked_row.ucb_union.Given as goal
+
+abbrev pub invariant-loop-j : goal.invariant-loop-j
+invariant-loop-j l = record {
+  charged : ChargedUnder l.table l.access UcbUnion l.i l.j l.row;
+  all : members l.all ≡ union_of (ucb_of l.table) (between (l.j + 1) (l.i + 1));
+}

@@ -1,0 +1,7 @@
+-- `one_row::charged` meets its contract: each arm fills the row of its method. Assumes nothing.
+use Rattle.std.proofs.Common.{arith}
+use Rattle.analysis.proofs.OneRowLaws.{charged-nothing}
+use Rattle.analysis.proofs.one_row.charged.Goals as goal
+
+pub returns-in-None : goal.returns-in-None
+returns-in-None c = rw c.in-None.is (charged-nothing c.args.table.now c.args.i (omega (arith, c.requires.0.few)))

@@ -1,0 +1,101 @@
+-- What is carried down the rows of a report: a column for each task above, and the terms of one row that the columns give.
+use Rattle.std.specs.Prelude.{ℕ, ◌+◌, ◌≤◌, ◌<◌, ◌≡◌, List, length, set, slice_index_or}
+use Rattle.cache.specs.Sets.{Set, ◌∪◌, ◌∩◌, size}
+use Rattle.cache.specs.Words.{members}
+use Rattle.search.specs.declared.demand.Term.{Term}
+use Rattle.search.specs.Positions.{between, hp}
+use Rattle.search.specs.Terms.{term_in}
+use Rattle.table.specs.Tasks.{no_sets}
+use Rattle.table.specs.declared.accesses.Access.{Access}
+use Rattle.table.specs.declared.Table.{Table}
+use Rattle.analysis.specs.declared.costs.Single.{Single}
+use Rattle.analysis.specs.declared.costs.Single.TheVariants.{None, EcbOnly, UcbOnly, UcbUnion, EcbUnion}
+use Rattle.analysis.specs.Gather.{union_of, hit, larger_of, largest_from}
+use Rattle.analysis.specs.Costs.{ucb_of, ecb_of, term_at, term_under}
+use Rattle.analysis.specs.declared.carried.Column.{Column}
+use Rattle.analysis.specs.declared.carried.Terms.{Terms}
+
+-- ---- columns
+
+-- one UCB more, that of the task at i
+pub record Next (c : Column) (ucb : Set) (i : ℕ) (r : Column) : Type 0 where
+  pub above : r.above ≡ c.above
+  pub evicting : r.evicting ≡ c.evicting
+  pub most : r.most ≡ larger_of c.most (hit (size ucb) i)
+  pub all : members r.all ≡ members c.all ∪ ucb
+  pub shared : r.shared ≡ larger_of c.shared (hit (size (ucb ∩ members c.above)) i)
+
+-- the column of the task at j before row i: what is gathered over the positions from j + 1 on and below i
+pub record ColumnOf (table : Table) (j i : ℕ) (c : Column) : Type 0 where
+  pub above : members c.above ≡ union_of (ecb_of table) (hp (j + 1))
+  pub evicting : c.evicting.0 ≡ size (ecb_of table j)
+  pub most : c.most ≡ largest_from (j + 1) (λ k. size (ucb_of table k)) (between (j + 1) i)
+  pub all : members c.all ≡ union_of (ucb_of table) (between (j + 1) i)
+  pub shared : c.shared ≡ largest_from (j + 1) (λ k. size (ucb_of table k ∩ union_of (ecb_of table) (hp (j + 1)))) (between (j + 1) i)
+
+-- no count is above what a product by the block reload time may have
+pub record Small (c : Column) : Type 0 where
+  pub evicting : c.evicting.0 ≤ 2048
+  pub most : c.most.reloads.0 ≤ 2048
+  pub shared : c.shared.reloads.0 ≤ 2048
+
+-- the reload count that a column gives for a task with this ECB
+abbrev pub count_of : Set → Column → Single → ℕ
+count_of ecb c None = 0
+count_of ecb c EcbOnly = c.evicting.0
+count_of ecb c UcbOnly = c.most.reloads.0
+count_of ecb c UcbUnion = size (members c.all ∩ ecb)
+count_of ecb c EcbUnion = c.shared.reloads.0
+
+-- the column at j of a list
+abbrev pub no_column : Column
+no_column = record { above = no_sets; evicting = record { 0 = 0 }; most = hit 0 0; all = no_sets; shared = hit 0 0 }
+
+abbrev pub column_in : List Column → ℕ → Column
+column_in ledger j = slice_index_or ledger j no_column
+
+-- the ledger before row i: a column for each task above it
+pub record Ledger (table : Table) (i : ℕ) (ledger : List Column) : Type 0 where
+  pub long : length ledger ≡ 32
+  pub columns : (j : ℕ) → j < i → ColumnOf table j i (column_in ledger j)
+
+-- inside row i: the columns before j are carried past it, the others down to it
+pub record Passing (table : Table) (i j : ℕ) (ledger : List Column) : Type 0 where
+  pub long : length ledger ≡ 32
+  pub past : (k : ℕ) → k < j → ColumnOf table k (i + 1) (column_in ledger k)
+  pub ahead : (k : ℕ) → j ≤ k → k < i → ColumnOf table k i (column_in ledger k)
+
+-- ---- the terms of a row
+
+-- those under a method
+abbrev pub terms_for : Single → Terms → List Term
+terms_for None r = r.none
+terms_for EcbOnly r = r.ecb_only
+terms_for UcbOnly r = r.ucb_only
+terms_for UcbUnion r = r.ucb_union
+terms_for EcbUnion r = r.ecb_union
+
+pub record Long (r : Terms) : Type 0 where
+  pub each : (m : Single) → length (terms_for m r) ≡ 32
+
+-- under each method one term put in
+pub record Put (j : ℕ) (v : Single → Term) (before after : Terms) : Type 0 where
+  pub each : (m : Single) → terms_for m after ≡ set (terms_for m before) j (v m)
+
+-- the terms w of the tasks from a on and below b
+pub record HasTerms (w : Single → ℕ → Term) (a b : ℕ) (r : Terms) : Type 0 where
+  pub each : (m : Single) (j : ℕ) → a ≤ j → j < b → term_in (terms_for m r) j ≡ w m j
+
+-- those of row i that the table gives, and while an access blocks i
+pub record Weighed (table : Table) (i : ℕ) (r : Terms) : Type 0 where
+  pub long : Long r
+  pub terms : HasTerms (λ m j. term_at table m i j) 0 i r
+
+pub record WeighedUnder (table : Table) (a : Access) (i : ℕ) (r : Terms) : Type 0 where
+  pub long : Long r
+  pub terms : HasTerms (λ m j. term_under table a m i j) 0 i r
+
+-- the terms of row i, and the ledger carried past it
+pub record RowWeighed (table : Table) (i : ℕ) (ledger : List Column) (r : Terms) : Type 0 where
+  pub carried : Ledger table (i + 1) ledger
+  pub weighed : Weighed table i r

@@ -1,0 +1,29 @@
+-- One row: what each task above i is charged under a method, at its position in a list of 32 charges.
+use Rattle.std.specs.Prelude.{ℕ, ◌+◌, ◌≤◌, ◌<◌, ◌≡◌, List, length, slice_index_or}
+use Rattle.cache.specs.declared.sets.CacheSet.{CacheSet}
+use Rattle.cache.specs.Words.{members}
+use Rattle.search.specs.Positions.{hp}
+use Rattle.table.specs.Tasks.{no_sets}
+use Rattle.table.specs.declared.Table.{Table}
+use Rattle.analysis.specs.declared.costs.Single.{Single}
+use Rattle.analysis.specs.declared.costs.Charge.{Charge}
+use Rattle.analysis.specs.Gather.{union_of}
+use Rattle.analysis.specs.Costs.{no_victim, ecb_of, charge_at}
+
+-- the charge of the task at j
+abbrev pub charge_in : List Charge → ℕ → Charge
+charge_in row j = slice_index_or row j (no_victim 0)
+
+-- a list that has these charges of the tasks above i, from the position `from` on
+pub record Tells (G : ℕ → Charge) (i from : ℕ) (row : List Charge) : Type 0 where
+  pub long : length row ≡ 32
+  pub each : (j : ℕ) → from ≤ j → j < i → charge_in row j ≡ G j
+
+-- those of a table
+abbrev pub Charged : Table → Single → ℕ → ℕ → List Charge → Type 0
+Charged table m i = Tells (charge_at table m i) i
+
+-- a list of sets that has, at each position above i, the union of the ECBs down to it
+pub record Evictors (table : Table) (i : ℕ) (unions : List CacheSet) : Type 0 where
+  pub long : length unions ≡ 32
+  pub each : (j : ℕ) → j < i → members (slice_index_or unions j no_sets) ≡ union_of (ecb_of table) (hp (j + 1))

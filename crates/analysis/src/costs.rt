@@ -1,0 +1,96 @@
+// What pre-emption costs: reload counts with whom they hit, and what one activation asks for with them. specs/Costs.antt says what they are; what is
+// here is common to the two crates that work them out, for the rows of a report and for one row.
+
+ghost use Rattle.std.specs.Prelude.{◌≡◌, ◌<◌, ◌≤◌};
+ghost use Rattle.table.specs.Accepted.{AcceptedTable};
+ghost use Rattle.analysis.specs.Gather.{hit, larger_of};
+ghost use Rattle.analysis.specs.Costs.{reloads_in, with_hit, term_with};
+
+use search::demand::Term;
+use table::Table;
+use cache::units::{Reloads, Ticks};
+
+// The methods that count reloads.
+#[derive(Clone, Copy)]
+pub enum Single {
+    None,
+    EcbOnly,
+    UcbOnly,
+    UcbUnion,
+    EcbUnion,
+}
+
+// What one task has to reload, and the position of that task: whom the pre-emption hits.
+#[derive(Clone, Copy)]
+pub struct Hit {
+    pub reloads: Reloads,
+    pub victim: usize,
+}
+
+impl Hit {
+    // Nothing to reload, before any task is looked at. Where no task has anything, this victim stays.
+    pub fn none(victim: usize) -> Hit
+        ensures { result ≡ hit 0 victim }
+    {
+        Hit {
+            reloads: Reloads(0),
+            victim,
+        }
+    }
+
+    // The larger of two hits, and the first where they are equal.
+    pub fn larger(self, other: Hit) -> Hit
+        ensures { result ≡ larger_of self other }
+    {
+        if self.reloads.0 < other.reloads.0 {
+            other
+        } else {
+            self
+        }
+    }
+}
+
+// What an activation is charged for reloads: a count that is not that of a single task, or as many as the worst hit task has.
+#[derive(Clone, Copy)]
+pub enum Charge {
+    NoVictim(Reloads),
+    Victim(Hit),
+}
+
+impl Charge {
+    // Nothing.
+    pub const NOTHING: Charge = Charge::NoVictim(Reloads(0));
+
+    // How many reloads, with or without a victim.
+    pub fn count(self) -> Reloads
+        ensures { result.0 ≡ reloads_in self }
+    {
+        match self {
+            Charge::Victim(hit) => hit.reloads,
+            Charge::NoVictim(n) => n,
+        }
+    }
+
+    // With one more task that may be hit, where it is the count of a single task.
+    pub fn with(self, other: Hit) -> Charge
+        ensures { result ≡ with_hit self other }
+    {
+        match self {
+            Charge::Victim(hit) => Charge::Victim(hit.larger(other)),
+            Charge::NoVictim(n) => Charge::NoVictim(n),
+        }
+    }
+}
+
+// What the task at j asks for, with so many reloads in its weight.
+pub fn term(table: &Table, j: usize, n: Reloads) -> Term
+    requires { AcceptedTable table.now × (j < table.now.count) × (n.0 ≤ 2048) }
+    ensures { result ≡ term_with table.now j n.0 }
+{
+    let task = table.task(j);
+    Term {
+        period: task.period,
+        jitter: task.jitter,
+        weight: Ticks(task.work.0 + n.time(table.brt).0),
+    }
+}

@@ -1,0 +1,5 @@
+pub mod Hex
+pub mod Sets
+pub mod Words
+pub mod Field
+pub mod Stored

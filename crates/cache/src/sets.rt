@@ -1,0 +1,129 @@
+// Sets of cache sets, as bits of four words. specs/Sets.antt says what a set, a union and a size are,
+// specs/Words.antt which set the words stand for, and specs/Field.antt what a text field says.
+
+ghost use Rattle.std.specs.Prelude.{◌≡◌, true, ◌+◌, ◌*◌, ◌<◌, ◌≤◌, length};
+ghost use Rattle.std.specs.Int.Count.{ones};
+ghost use Rattle.cache.specs.Sets.{◌∪◌, ◌∩◌, size};
+ghost use Rattle.cache.specs.Words.{members};
+ghost use Rattle.cache.specs.Stored.{held_at, stored_at};
+ghost use Rattle.cache.specs.Field.{read_set};
+
+use crate::hex_digits;
+use crate::units::Reloads;
+
+// A set of cache sets: cache set s is bit s % 64 of word s / 64.
+#[derive(Clone, Copy, Default)]
+pub struct CacheSet {
+    w0: u64,
+    w1: u64,
+    w2: u64,
+    w3: u64,
+}
+
+impl CacheSet {
+    // The most cache sets that there are, and so the largest size.
+    pub const MOST: u64 = 256;
+
+    pub const EMPTY: CacheSet = CacheSet {
+        w0: 0,
+        w1: 0,
+        w2: 0,
+        w3: 0,
+    };
+
+    pub fn union(self, other: CacheSet) -> CacheSet
+        ensures { members result ≡ members self ∪ members other }
+    {
+        CacheSet {
+            w0: self.w0 | other.w0,
+            w1: self.w1 | other.w1,
+            w2: self.w2 | other.w2,
+            w3: self.w3 | other.w3,
+        }
+    }
+
+    pub fn intersection(self, other: CacheSet) -> CacheSet
+        ensures { members result ≡ members self ∩ members other }
+    {
+        CacheSet {
+            w0: self.w0 & other.w0,
+            w1: self.w1 & other.w1,
+            w2: self.w2 & other.w2,
+            w3: self.w3 & other.w3,
+        }
+    }
+
+    pub fn size(self) -> Reloads
+        ensures count { result.0 ≡ size (members self) }
+        ensures most { result.0 ≤ 256 }
+    {
+        Reloads(ones_in(self.w0) + ones_in(self.w1) + ones_in(self.w2) + ones_in(self.w3))
+    }
+
+    fn equals(self, other: CacheSet) -> bool
+        ensures { result ≡ true → members self ≡ members other }
+    {
+        (self.w0 == other.w0)
+            & (self.w1 == other.w1)
+            & (self.w2 == other.w2)
+            & (self.w3 == other.w3)
+    }
+
+    // The size of what it shares with another, where its own is known: that is it, where the other holds all of it.
+    pub fn shared_size(self, own: Reloads, other: CacheSet) -> Reloads
+        requires { own.0 ≡ size (members self) }
+        ensures { result.0 ≡ size (members self ∩ members other) }
+    {
+        let both = self.intersection(other);
+        if both.equals(self) { own } else { both.size() }
+    }
+
+    // The set at position `k` of a list of words, four for each position.
+    #[tactic(auto, unfolding(crate::specs::Stored::held_at))]
+    pub fn at(words: &[u64], k: usize) -> CacheSet
+        requires { 4 * k + 4 ≤ length words.now }
+        ensures { result ≡ held_at words.now k }
+    {
+        let at = 4 * k;
+        CacheSet {
+            w0: words[at],
+            w1: words[at + 1],
+            w2: words[at + 2],
+            w3: words[at + 3],
+        }
+    }
+
+    // Puts the set at position `k` of a list of words.
+    #[tactic(auto, unfolding(crate::specs::Stored::stored_at))]
+    pub fn store(self, words: &mut [u64], k: usize)
+        requires { 4 * k + 4 ≤ length words.old }
+        ensures { words.new ≡ stored_at words.old k self }
+    {
+        let at = 4 * k;
+        words[at] = self.w0;
+        words[at + 1] = self.w1;
+        words[at + 2] = self.w2;
+        words[at + 3] = self.w3;
+    }
+
+    // The set that a field of the table text says: sets / 4 hex digits, most significant first.
+    pub fn from_field(field: &[u8], sets: u64) -> Option<CacheSet>
+        ensures { result ≡ read_set sets field.now }
+    {
+        if sets > CacheSet::MOST {
+            return None;
+        }
+        if field.len() as u64 != sets / 4 {
+            return None;
+        }
+        let (w3, w2, w1, w0) = hex_digits::read_words(field)?;
+        Some(CacheSet { w0, w1, w2, w3 })
+    }
+}
+
+// How many bits of a word are 1.
+fn ones_in(word: u64) -> u64
+    ensures { (result ≡ ones word) × (result ≤ 64) }
+{
+    u64::count_ones(word) as u64
+}

@@ -1,0 +1,21 @@
+// Block reloads and ticks, and the one way from the first to the second.
+
+ghost use Rattle.std.specs.Prelude.{◌≡◌, ◌*◌, ◌≤◌};
+
+// A length of time.
+#[derive(Clone, Copy, PartialEq, Eq, Default)]
+pub struct Ticks(pub u64);
+
+// A number of block reloads.
+#[derive(Clone, Copy, PartialEq, Eq, Default)]
+pub struct Reloads(pub u64);
+
+impl Reloads {
+    // The time that these reloads take, at `brt` ticks a block.
+    pub fn time(self, brt: Ticks) -> Ticks
+        requires { (self.0 ≤ 2048) × (brt.0 ≤ 100000) }
+        ensures { result.0 ≡ brt.0 * self.0 }
+    {
+        Ticks(brt.0 * self.0)
+    }
+}

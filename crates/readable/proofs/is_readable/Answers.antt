@@ -1,6 +1,0 @@
--- What the tests mean. Assumes nothing.
-use Rattle.readable.proofs.RoundTrip.{meant}
-use Rattle.readable.proofs.is_readable.Goals as goal
-
-pub returns-clause-meant : goal.returns-clause-meant
-returns-clause-meant c = meant c.args.table.now c.passes.ensures.whole _ c.passes.ensures.test

@@ -1,2 +1,0 @@
-pub mod RowLaws
-pub mod NumberLaws

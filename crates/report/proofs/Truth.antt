@@ -1,0 +1,68 @@
+-- What an explanation says is true of the equation: its lines add up to the need, and the victim has the reloads that are charged. What a need says of
+-- the response stands in `need`. Assumes nothing.
+use Rattle.std.proofs.Common.{ℕ, ◌+◌, ◌*◌, ◌≤◌, ◌<◌, arith, ◌≡◌, sym, subst, ◌∙◌}
+use Rattle.cache.specs.declared.units.Ticks.{Ticks}
+use Rattle.cache.specs.Sets.{Set, ◌∩◌, size}
+use Rattle.search.specs.declared.demand.Response.TheVariants.{Within}
+use Rattle.search.specs.Positions.{hp, fold}
+use Rattle.search.specs.Demand.{demand_of}
+use Rattle.search.proofs.LeastLaws.{answer-reached}
+use Rattle.table.specs.declared.accesses.Access.{Access}
+use Rattle.table.specs.Accesses.{added_by}
+use Rattle.table.specs.declared.Table.{Table}
+use Rattle.table.specs.Tables.{at}
+use Rattle.table.specs.Accepted.{AcceptedTable}
+use Rattle.analysis.specs.declared.costs.Hit.{Hit}
+use Rattle.analysis.specs.declared.costs.Single.{Single}
+use Rattle.analysis.specs.declared.costs.Single.TheVariants.{None, EcbOnly, UcbOnly, UcbUnion, EcbUnion}
+use Rattle.analysis.specs.declared.Method.{Method}
+use Rattle.analysis.specs.declared.costs.Charge.TheVariants.{Victim}
+use Rattle.analysis.specs.Gather.{aff, union_of, hit, larger_of, largest_at, FirstLargest}
+use Rattle.analysis.specs.Costs.{reloads_in, reloads_with, ucb_of, ecb_of, charge_under}
+use Rattle.analysis.proofs.HitLaws.{larger-by, first-largest}
+use Rattle.analysis.specs.Needs.{need_of}
+use Rattle.report.proofs.Ranges.{needed}
+use Rattle.report.specs.Explanation.{activations_in}
+
+-- ---- own time, blocking and the products
+
+-- what the line of the task at j adds while an access blocks i: its activations, each with its work and the time of its reloads
+abbrev pub adds_at : Table → Access → Single → ℕ → ℕ → ℕ → ℕ
+adds_at table a m i R j = activations_in R (at table j) * ((at table j).work.0 + table.brt.0 * reloads_in (charge_under table a m i j))
+
+-- C, how long the task is blocked, and what the line of each task above adds, are what is needed, whichever of the six methods is explained
+pub explanation-adds-up : (table : Table) → AcceptedTable table → (i : ℕ) → i < table.count → (m : Method) → (R : Ticks) → (need_of table m i).time ≡ Within R
+    → fold ◌+◌ ((at table i).work.0 + (need_of table m i).blocker.lasts.0) (adds_at table (need_of table m i).blocker (need_of table m i).method i R.0) (hp i) ≡ R.0
+unfolding demand_of reloads_with
+explanation-adds-up table accepted i held m R e =
+    sym (answer-reached _ 250000000 R (sym e ∙ (needed table accepted i held m).time-is)).2
+
+-- ---- the victim
+
+-- what of these sets has to be reloaded after an activation of j: under UCB-Only all of them, under ECB-Union what of them is evicted by j or above
+abbrev pub lost_of : Table → Single → ℕ → Set → ℕ
+lost_of table None j useful = 0
+lost_of table EcbOnly j useful = 0
+lost_of table UcbOnly j useful = size useful
+lost_of table UcbUnion j useful = 0
+lost_of table EcbUnion j useful = size (useful ∩ union_of (ecb_of table) (hp (j + 1)))
+
+-- who is hit while an access blocks: the task of aff(i, j) that has most to reload, and the first of them; or the access's task, where the access has
+-- more to reload than each of them
+pub data Hits (table : Table) (a : Access) (m : Single) (i j : ℕ) : Hit → Type 0 where
+  of-task : {h : Hit} → FirstLargest (λ k. lost_of table m j (ucb_of table k)) (j + 1) (i + 1) h → lost_of table m j (added_by a j) ≤ h.reloads.0 → Hits table a m i j h
+  of-access : ((k : ℕ) → j < k → k ≤ i → lost_of table m j (ucb_of table k) < lost_of table m j (added_by a j)) → Hits table a m i j (hit (lost_of table m j (added_by a j)) a.task)
+
+module _ (table : Table) (a : Access) (i j : ℕ) (above : j < i) where
+  larger-hits : (m : Single) → Hits table a m i j (larger_of (largest_at (λ k. lost_of table m j (ucb_of table k)) (aff i j)) (hit (lost_of table m j (added_by a j)) a.task))
+  larger-hits m =
+      let first = first-largest (λ k. lost_of table m j (ucb_of table k)) (j + 1) (i + 1) (omega arith) in
+      larger-by (Hits table a m i j) _ _ (λ less. of-access (λ k l b. omega (arith, first.most k (omega arith) (omega arith)))) (λ least. of-task first least)
+
+  -- a victim that is told is hit so
+  pub victim-has : (m : Single) (h : Hit) → charge_under table a m i j ≡ Victim h → Hits table a m i j h
+  victim-has None h e = cc
+  victim-has EcbOnly h e = cc
+  victim-has UcbOnly h e = subst (Hits table a UcbOnly i j) (cc) (larger-hits UcbOnly)
+  victim-has UcbUnion h e = cc
+  victim-has EcbUnion h e = subst (Hits table a EcbUnion i j) (cc) (larger-hits EcbUnion)

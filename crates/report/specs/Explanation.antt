@@ -1,0 +1,76 @@
+-- The explanation of a figure as bytes. Assumes nothing.
+use Rattle.std.specs.Prelude.{ℕ, ◌+◌, List, [], ◌∷◌, ◌++◌, flat_map}
+use Rattle.search.specs.declared.demand.Response.{Response}
+use Rattle.search.specs.declared.demand.Response.TheVariants.{Within, Unschedulable}
+use Rattle.search.specs.Positions.{hp}
+use Rattle.search.specs.Demand.{ceil}
+use Rattle.table.specs.declared.tasks.Task.{Task}
+use Rattle.table.specs.Tasks.{name_text, limit_of}
+use Rattle.table.specs.declared.accesses.Access.{Access}
+use Rattle.table.specs.declared.Table.{Table}
+use Rattle.table.specs.Tables.{at}
+use Rattle.analysis.specs.declared.costs.Charge.{Charge}
+use Rattle.analysis.specs.declared.costs.Charge.TheVariants.{Victim, NoVictim}
+use Rattle.analysis.specs.declared.costs.Single.{Single}
+use Rattle.analysis.specs.declared.costs.Single.TheVariants.{None, EcbOnly, UcbOnly, UcbUnion, EcbUnion}
+use Rattle.analysis.specs.Costs.{reloads_in, charge_under}
+use Rattle.analysis.specs.declared.Method.{Method}
+use Rattle.analysis.specs.declared.need.Need.{Need}
+use Rattle.analysis.specs.Needs.{need_of}
+use Rattle.writing.specs.Text.{spelled, line_of}
+
+-- what is needed, or `beyond`
+abbrev pub needed_text : Response → List ℕ
+needed_text (Within R) = spelled R.0
+needed_text Unschedulable = 98 ∷ 101 ∷ 121 ∷ 111 ∷ 110 ∷ 100 ∷ []
+
+-- the number by which a caller names a method that counts
+abbrev pub number_of : Single → ℕ
+number_of None = 0
+number_of EcbOnly = 1
+number_of UcbOnly = 2
+number_of UcbUnion = 3
+number_of EcbUnion = 4
+
+-- the first line: `X`, name, method explained, need, D − J, C, and as B how long the task is blocked
+unfoldable pub need_line : Task → Need → List ℕ
+need_line t need =
+    line_of (88 ∷ [])
+    (name_text t.name
+    ∷ spelled (number_of need.method)
+    ∷ needed_text need.time
+    ∷ spelled (limit_of t)
+    ∷ spelled t.work.0
+    ∷ spelled need.blocker.lasts.0
+    ∷ [])
+
+-- how often a task is activated in R ticks
+abbrev pub activations_in : ℕ → Task → ℕ
+activations_in R t = ceil (R + t.jitter.0) t.period.0
+
+-- the name of the task at a position
+abbrev pub name_at : Table → ℕ → List ℕ
+name_at table k = name_text (at table k).name
+
+-- the name of the victim, where `names` has that of each position, or `-` where there is no victim
+abbrev pub victim_text : (ℕ → List ℕ) → Charge → List ℕ
+victim_text names (Victim h) = names h.victim
+victim_text names (NoVictim n) = 45 ∷ []
+
+-- the line of a task above: `I`, name, activations in R ticks, and the reloads that each is charged with their victim
+unfoldable pub reason_line : (ℕ → List ℕ) → ℕ → Task → Charge → List ℕ
+reason_line names R t charge =
+    line_of (73 ∷ []) (name_text t.name ∷ spelled (activations_in R t) ∷ spelled (reloads_in charge) ∷ victim_text names charge ∷ [])
+
+-- the lines of the tasks above i under method m while an access blocks i, from position 0 down; none where the need is beyond
+abbrev pub reason_lines : Table → Access → Single → ℕ → Response → List ℕ
+reason_lines table a m i (Within R) = flat_map (λ j. reason_line (name_at table) R.0 (at table j) (charge_under table a m i j)) (hp i)
+reason_lines table a m i Unschedulable = []
+
+-- the explanation of what the task at i needs
+abbrev pub explanation_by : Table → ℕ → Need → List ℕ
+explanation_by table i need = need_line (at table i) need ++ reason_lines table need.blocker need.method i need.time
+
+-- the explanation of what method m answers for the task at i
+unfoldable pub explanation_of : Table → Method → ℕ → List ℕ
+explanation_of table m i = explanation_by table i (need_of table m i)

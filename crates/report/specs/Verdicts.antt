@@ -1,0 +1,19 @@
+-- The verdicts of the methods, and the last line of the report as bytes. In it `answers m i` is what method m answers for the task at position i.
+-- Assumes nothing.
+use Rattle.std.specs.Prelude.{ℕ, Bool, true, false, ◌&&◌, List, [], ◌∷◌, map}
+use Rattle.search.specs.declared.demand.Response.{Response}
+use Rattle.search.specs.declared.demand.Response.TheVariants.{Within, Unschedulable}
+use Rattle.search.specs.Positions.{between, fold, methods}
+use Rattle.writing.specs.Text.{line_of, yes_no}
+
+abbrev pub has_response : Response → Bool
+has_response (Within t) = true
+has_response Unschedulable = false
+
+-- whether every task has a response under a method
+abbrev pub verdict : ℕ → (ℕ → Response) → Bool
+verdict count answers = fold ◌&&◌ true (λ i. has_response (answers i)) (between 0 count)
+
+-- the last line: `V`, and the verdict of each method
+unfoldable pub verdict_line : ℕ → (ℕ → ℕ → Response) → List ℕ
+verdict_line count answers = line_of (86 ∷ []) (map (λ m. yes_no (verdict count (answers m))) methods)

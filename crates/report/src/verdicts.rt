@@ -1,0 +1,51 @@
+// The verdicts of the methods, and the line that tells them.
+
+ghost use Rattle.std.specs.Prelude.{◌≡◌, ◌+◌, ◌≤◌, ◌<◌, ◌++◌, length};
+ghost use Rattle.writing.specs.declared.writer.TheConstants.{ROOM};
+ghost use Rattle.report.specs.Verdicts.{has_response, verdict, verdict_line};
+ghost use Rattle.report.specs.VerdictRows.{answer_under, answers_in};
+
+use search::demand::{Response, Row};
+use writing::writer::Draft;
+
+// Whether there is a response in a row.
+fn responds(row: &Row, m: usize) -> bool
+    requires { m < 6 }
+    ensures { result ≡ has_response (answer_under row.now m) }
+{
+    match row.responses[m] {
+        Response::Within(_) => true,
+        Response::Unschedulable => false,
+    }
+}
+
+// Whether every task has a response under a method.
+fn verdict(rows: &[Row], m: usize) -> bool
+    requires { m < 6 }
+    ensures { result ≡ verdict (length rows.now) (answers_in rows.now m) }
+{
+    for row in rows {
+        if !responds(row, m) {
+            return false;
+        }
+    }
+    true
+}
+
+// The last line, from the rows of all tasks.
+#[tactic(auto, unfolding(crate::specs::Verdicts::verdict_line))]
+pub fn write_verdict_line(draft: &mut Draft, rows: &[Row])
+    requires { length draft.old + length (verdict_line (length rows.now) (answers_in rows.now)) ≤ ROOM }
+    ensures { draft.new ≡ draft.old ++ verdict_line (length rows.now) (answers_in rows.now) }
+{
+    draft.push(b'V');
+    draft.fields(&[
+        verdict(rows, 0),
+        verdict(rows, 1),
+        verdict(rows, 2),
+        verdict(rows, 3),
+        verdict(rows, 4),
+        verdict(rows, 5),
+    ]);
+    draft.push(b'\n');
+}

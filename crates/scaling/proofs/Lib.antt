@@ -1,3 +1,0 @@
--- What belongs to no one function.
-pub mod ScaledLaws
-pub mod ScaledTexts

@@ -1,0 +1,109 @@
+-- Facts about the later of two answers, and the latest of some. Assumes nothing.
+use Rattle.std.proofs.Common.{ℕ, zero, suc, max, ◌≤◌, ◌<◌, arith, ◌≡◌, refl, ap, sym, subst, ◌∙◌, List, [], ◌∷◌, ◌++◌, length, get_or}
+use Rattle.std.proofs.Math.Decide.{dec_le}
+use mathlib.Core.List.{foldl, foldl-append}
+use Rattle.search.specs.declared.demand.Response.{Response}
+use Rattle.search.specs.declared.demand.Response.TheVariants.{Within, Unschedulable}
+use Rattle.search.specs.Least.{NoLater, later, latest_of, IsLatest}
+use Rattle.search.proofs.SoonerLaws.{no-later-trans}
+
+pub later-assoc : (a b c : Response) → later (later a b) c ≡ later a (later b c)
+later-assoc (Within x) (Within y) (Within z) = ap (λ (n : ℕ). Within (record { 0 = n })) (omega arith)
+later-assoc (Within x) (Within y) Unschedulable = refl
+later-assoc (Within x) Unschedulable c = refl
+later-assoc Unschedulable b c = refl
+
+-- one that is no later than another does not change it
+pub later_second : (a b : Response) → NoLater a b → later a b ≡ b
+unfolding NoLater
+later_second (Within x) (Within y) p = ap (λ (n : ℕ). Within (record { 0 = n })) (omega arith)
+later_second (Within x) Unschedulable p = refl
+later_second Unschedulable (Within y) p = absurd p
+later_second Unschedulable Unschedulable p = refl
+
+to_none : (a : Response) → NoLater a Unschedulable
+unfolding NoLater
+to_none (Within x) = tt
+to_none Unschedulable = tt
+
+pub later-mono : (a b c d : Response) → NoLater a c → NoLater b d → NoLater (later a b) (later c d)
+unfolding NoLater
+later-mono (Within x) (Within y) (Within z) (Within w) p q = omega arith
+later-mono a b (Within z) Unschedulable p q = to_none (later a b)
+later-mono a b Unschedulable d p q = to_none (later a b)
+later-mono (Within x) Unschedulable (Within z) (Within w) p q = absurd q
+later-mono Unschedulable b (Within z) (Within w) p q = absurd p
+
+-- ---- of some answers
+
+-- no answer is sooner than 0
+later_first : (b : Response) → later (Within (record { 0 = 0 })) b ≡ b
+later_first (Within y) = ap (λ (n : ℕ). Within (record { 0 = n })) (omega arith)
+later_first Unschedulable = refl
+
+pub latest-one : (r : Response) → latest_of (r ∷ []) ≡ r
+latest-one r = later_first r
+
+-- one more at the end, and in front
+pub latest-next : (rs : List Response) (r : Response) → latest_of (rs ++ (r ∷ [])) ≡ later (latest_of rs) r
+latest-next rs r = foldl-append later (Within (record { 0 = 0 })) rs (r ∷ [])
+
+later-fold : (a b : Response) (rs : List Response) → foldl later (later a b) rs ≡ later a (foldl later b rs)
+later-fold a b [] = refl
+later-fold a b (r ∷ rs) = ap (λ (x : Response). foldl later x rs) (later-assoc a b r) ∙ later-fold a (later b r) rs
+
+pub latest-front : (r : Response) (rs : List Response) → latest_of (r ∷ rs) ≡ later r (latest_of rs)
+latest-front r rs =
+    ap (λ (x : Response). foldl later x rs) (later_first r ∙ sym (later_last r)) ∙ later-fold r (Within (record { 0 = 0 })) rs
+  where
+    later_last : (a : Response) → later a (Within (record { 0 = 0 })) ≡ a
+    later_last (Within x) = ap (λ (n : ℕ). Within (record { 0 = n })) (omega arith)
+    later_last Unschedulable = refl
+
+-- ---- what the latest means
+
+no-later-self : (a : Response) → NoLater a a
+unfolding NoLater
+no-later-self (Within x) = omega arith
+no-later-self Unschedulable = tt
+
+-- the later of two is one of them, and the other is no later
+later-cases : (P : Response → Type 0) (a b : Response) → (NoLater b a → P a) → (NoLater a b → P b) → P (later a b)
+unfolding NoLater
+later-cases P (Within x) (Within y) first second =
+    elim (dec_le x.0 y.0) [
+      | yes l ↦ subst (λ (n : ℕ). P (Within (record { 0 = n }))) (larger y.0 x.0 l ∙ omega arith) (second l)
+      | no l ↦ subst (λ (n : ℕ). P (Within (record { 0 = n }))) (larger x.0 y.0 (omega arith)) (first (omega arith))
+    ]
+  where
+    larger : (a b : ℕ) → b ≤ a → a ≡ max a b
+    larger a b l = omega arith
+later-cases P (Within x) Unschedulable first second = second tt
+later-cases P Unschedulable b first second = first (to_none b)
+
+-- one answer more in front
+latest-more : (r s : Response) (rs : List Response) (l : Response) → IsLatest (s ∷ rs) l → IsLatest (r ∷ s ∷ rs) (later r l)
+latest-more r s rs l rest = later-cases (IsLatest (r ∷ s ∷ rs)) r l first second
+  where
+    first : NoLater l r → IsLatest (r ∷ s ∷ rs) r
+    first h = record { each = each; one = (0, omega arith, refl) }
+      where
+        each : (n : ℕ) → n < length (r ∷ s ∷ rs) → NoLater (get_or (r ∷ s ∷ rs) n Unschedulable) r
+        each zero b = no-later-self r
+        each (suc n) b = no-later-trans _ l r (rest.each n (omega arith)) h
+
+    second : NoLater r l → IsLatest (r ∷ s ∷ rs) l
+    second h = record { each = each; one = let w = rest.one in (suc w.0, omega arith, w.2) }
+      where
+        each : (n : ℕ) → n < length (r ∷ s ∷ rs) → NoLater (get_or (r ∷ s ∷ rs) n Unschedulable) l
+        each zero b = h
+        each (suc n) b = rest.each n (omega arith)
+
+-- of one answer or more it is the latest
+pub latest-is : (r : Response) (rs : List Response) → IsLatest (r ∷ rs) (latest_of (r ∷ rs))
+latest-is r [] = rw (latest-one r) (record { each = only; one = (0, omega arith, refl) })
+  where
+    only : (n : ℕ) → n < 1 → NoLater (get_or (r ∷ []) n Unschedulable) r
+    only zero h = no-later-self r
+    only (suc n) h = absurd (omega arith)
+latest-is r (s ∷ rs) = rw (latest-front r (s ∷ rs)) (latest-more r s rs (latest_of (s ∷ rs)) (latest-is s rs))

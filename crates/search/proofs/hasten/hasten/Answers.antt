@@ -1,0 +1,14 @@
+-- `hasten::hasten` meets its contract: the time that the loop has come to is below every solution. Assumes nothing.
+use Rattle.std.proofs.Common.{arith}
+use Rattle.search.proofs.LeastLaws.{found, past}
+use Rattle.search.proofs.ShareLaws.{full}
+use Rattle.search.proofs.hasten.hasten.Goals as goal
+
+pub returns-then-left_by-eq0 : goal.returns-then-left_by-eq0
+returns-then-left_by-eq0 c = full _ _ _ _ c.requires.0.ranged c.requires.0.own-least (omega arith)
+
+pub returns-then-t-r : goal.returns-then-t-r
+returns-then-t-r c = found _ _ _ c.loop-r.invariant.0 (omega arith) (omega arith)
+
+pub returns : goal.returns
+returns c = past _ _ _ c.loop-r.invariant.0 (omega arith)

@@ -1,0 +1,7 @@
+-- `hasten::turn_at` meets its contract. Assumes nothing.
+use Rattle.search.specs.Terms.{term_in}
+use Rattle.search.proofs.HastenLaws.{Turning}
+use Rattle.search.proofs.hasten.turn_at.Given as goal
+
+abbrev pub invariant-loop-term : goal.invariant-loop-term
+invariant-loop-term l = Turning l.own (term_in l.terms) l.r l.term-index l.demand l.counted l.extra l.left

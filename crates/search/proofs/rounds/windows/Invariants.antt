@@ -1,0 +1,6 @@
+-- `rounds::windows` meets its contract: the windows before the k-th are made, and the other entries stand. Assumes nothing.
+use Rattle.search.proofs.RoundLaws.{Opening}
+use Rattle.search.proofs.rounds.windows.Given as goal
+
+abbrev pub invariant-loop-k : goal.invariant-loop-k
+invariant-loop-k l = Opening l.blocks l.step l.first l.k l.initial.entries l.entries

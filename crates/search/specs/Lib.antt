@@ -1,0 +1,10 @@
+pub mod Positions
+pub mod Demand
+pub mod Terms
+pub mod Least
+pub mod Shares
+pub mod Grouping
+pub mod Classes
+pub mod Rounds
+pub mod Hasten
+pub mod Counts

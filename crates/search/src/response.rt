@@ -1,0 +1,157 @@
+// The search for the smallest time that equals the demand of a task. specs/Counts.antt says how often its terms are known to be activated.
+
+ghost use Rattle.std.specs.Prelude.{◌≡◌, true, ℕ, ◌≤◌, ◌<◌, length, if◌then◌else◌};
+ghost use Rattle.search.specs.Positions.{front};
+ghost use Rattle.search.specs.Demand.{demand_of};
+ghost use Rattle.search.specs.Terms.{term_in, InRange, Handed};
+ghost use Rattle.search.specs.Least.{least_of};
+ghost use Rattle.search.specs.Counts.{count, count_in, once, missing_of, raised_to, asked_of, Kept, Raised, Started};
+
+use crate::hasten;
+use crate::demand::{Response, Term};
+use cache::units::Ticks;
+
+// After how many turns a search is hastened.
+const TURNS: usize = 16;
+
+// How often a term is known to be activated, and up to when that holds.
+#[derive(Clone, Copy)]
+pub struct Count {
+    activations: u64,
+    end: Ticks,
+}
+
+impl Count {
+    // None yet.
+    pub const NONE: Count = Count {
+        activations: 0,
+        end: Ticks(0),
+    };
+
+    // One activation: it holds up to the last time at which no second one has come.
+    pub fn once(term: Term) -> Count
+        requires { InRange term }
+        ensures { result ≡ once term }
+    {
+        Count {
+            activations: 1,
+            end: Ticks(term.period.0 - term.jitter.0),
+        }
+    }
+
+    // Raised to the activations up to `r`.
+    fn raised(self, term: Term, r: u64) -> Count
+        requires { InRange term × (self.activations ≤ 750000000) × (self.end.0 ≤ 500000000) × (r ≤ 250000000) }
+        ensures { (result ≡ raised_to term r self) × (result.activations ≤ 1000000000) }
+    {
+        let period = term.period.0;
+        let more = missing(period, self.end.0, r);
+        Count {
+            activations: self.activations + more,
+            end: Ticks(self.end.0 + more * period),
+        }
+    }
+}
+
+// 1 where `b` holds, and else 0.
+fn one_if(b: bool) -> u64
+    ensures { (result ≡ (if b then 1 else 0)) × (result ≤ 1) }
+{
+    if b { 1 } else { 0 }
+}
+
+// How many activations more there are up to `r` than up to `end`. Where it is none or one, nothing is divided.
+fn missing(period: u64, end: u64, r: u64) -> u64
+    requires { (1 ≤ period) × (period ≤ 250000000) × (end ≤ 500000000) × (r ≤ 250000000) }
+    ensures { (result ≡ missing_of period end r) × (result ≤ 250000000) }
+{
+    let one = one_if(end < r);
+    let reached = end + one * period;
+    if r <= reached {
+        return one;
+    }
+    one + (r - reached + (period - 1)) / period
+}
+
+// What the counts ask for.
+fn asked(own: u64, terms: &[Term], counts: &[Count]) -> u64
+    requires { Handed own terms.now 0 × Kept (term_in terms.now) (length terms.now) counts.now }
+    ensures { result ≡ asked_of own (term_in terms.now) counts.now (length terms.now) }
+{
+    let mut sum = own;
+    for (i, term) in terms.iter().enumerate() {
+        sum += counts[i].activations * term.weight.0;
+    }
+    sum
+}
+
+// Whether the counts hold up to `r`.
+fn hold(counts: &[Count], r: u64) -> bool
+    ensures { result ≡ true → (j : ℕ) → j < length counts.now → r ≤ (count_in counts.now j).end.0 }
+{
+    counts.iter().all(|count| r <= count.end.0)
+}
+
+// What the counts ask for once each is raised to the activations up to `r`.
+fn advance(own: u64, terms: &[Term], r: u64, counts: &mut [Count]) -> u64
+    requires { Handed own terms.now r × Kept (term_in terms.now) (length terms.now) counts.old }
+    ensures value { result ≡ asked_of own (term_in terms.now) counts.new (length terms.now) }
+    ensures raised { Raised (term_in terms.now) r counts.old (length terms.now) counts.new }
+{
+    let mut sum = own;
+    for (i, term) in terms.iter().enumerate() {
+        let count = counts[i].raised(*term, r);
+        counts[i] = count;
+        sum += count.activations * term.weight.0;
+    }
+    sum
+}
+
+// One activation of each term.
+pub fn firsts(terms: &[Term]) -> [Count; 32]
+    requires { (length terms.now ≤ 32) × ((j : ℕ) → j < length terms.now → InRange (term_in terms.now j)) }
+    ensures { result ≡ front (count 0 0) (λ j. once (term_in terms.now j)) (length terms.now) }
+{
+    let mut counts = [Count::NONE; 32];
+    for (i, term) in terms.iter().enumerate() {
+        counts[i] = Count::once(*term);
+    }
+    counts
+}
+
+// The end of a search that is slow: hastened, from a time on that no solution is below, and the counts raised to its answer, so that they can be gone on from.
+fn finish(own: u64, terms: &[Term], limit: u64, start: u64, counts: &mut [Count]) -> Response
+    requires { Handed own terms.now limit × Started own (term_in terms.now) (length terms.now) counts.old × (start ≡ asked_of own (term_in terms.now) counts.old (length terms.now)) }
+    ensures result_value { result ≡ least_of (demand_of own (term_in terms.now) (length terms.now)) limit }
+    ensures started { Started own (term_in terms.now) (length terms.now) counts.new }
+{
+    if limit < start {
+        return Response::Unschedulable;
+    }
+    let found = hasten::hasten(own, terms, limit, start);
+    if let Response::Within(time) = found {
+        advance(own, terms, time.0, counts);
+    }
+    found
+}
+
+// The smallest time up to `limit` that equals its demand, for a task with `own` ticks of work under these terms. `counts` has activations of theirs to start
+// from, none above those of a solution, and is left so. Each turn tries the time that the counts ask for.
+pub fn least(own: Ticks, terms: &[Term], limit: Ticks, counts: &mut [Count]) -> Response
+    requires { Handed own.0 terms.now limit.0 × Started own.0 (term_in terms.now) (length terms.now) counts.old }
+    ensures result_value { result ≡ least_of (demand_of own.0 (term_in terms.now) (length terms.now)) limit.0 }
+    ensures started { Started own.0 (term_in terms.now) (length terms.now) counts.new }
+{
+    let n = terms.len();
+    let mut time = asked(own.0, terms, counts);
+    for _ in 0..TURNS {
+        if limit.0 < time {
+            return Response::Unschedulable;
+        }
+        if hold(&counts[..n], time) {
+            return Response::Within(Ticks(time));
+        }
+        time = advance(own.0, terms, time, counts);
+    }
+    finish(own.0, terms, limit.0, time, counts)
+}

@@ -1,0 +1,25 @@
+-- The number of a refusal is at most 25. Assumes nothing.
+use Rattle.std.proofs.Common.{ℕ, ◌≤◌, arith}
+use Rattle.table.specs.declared.refusals.Reason.{Reason}
+use Rattle.table.specs.declared.refusals.Reason.TheVariants.{TooLong, NotEnded, Shape, Name, Number, Range, Marks, Order, KnownName, TooManyTasks, NoTask, Method, Position, ShortBuffer, OtherTask, TooManyAccesses, Blocking, NoText}
+use Rattle.table.specs.Numbers.{number_of}
+
+pub number-small : (reason : Reason) → number_of reason ≤ 25
+number-small TooLong = omega arith
+number-small NotEnded = omega arith
+number-small Shape = omega arith
+number-small Name = omega arith
+number-small Number = omega arith
+number-small Range = omega arith
+number-small Marks = omega arith
+number-small Order = omega arith
+number-small KnownName = omega arith
+number-small TooManyTasks = omega arith
+number-small NoTask = omega arith
+number-small Method = omega arith
+number-small Position = omega arith
+number-small ShortBuffer = omega arith
+number-small OtherTask = omega arith
+number-small TooManyAccesses = omega arith
+number-small Blocking = omega arith
+number-small NoText = omega arith

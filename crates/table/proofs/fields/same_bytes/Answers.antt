@@ -1,0 +1,7 @@
+-- Assumes nothing.
+use Rattle.std.proofs.Common.{arith}
+use Rattle.table.proofs.FieldScan.{same-step, same-stop, same-end, same-lengths}
+use Rattle.table.proofs.fields.same_bytes.Goals as goal
+
+pub returns-then-a-b : goal.returns-then-a-b
+returns-then-a-b c = same-lengths _ _ c.if-a-b.true

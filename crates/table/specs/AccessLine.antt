@@ -1,0 +1,48 @@
+-- What an access line says, field by field, and its refusals, each with its condition, in the order in which they are tried.
+-- Assumes nothing.
+use Rattle.std.specs.Prelude.{ℕ, List, [], ◌∷◌, ◌≡◌, true, not, ◌&&◌, length, is_some, unwrap_or, nat_le, nat_lt}
+use Rattle.std.specs.List.{position_or_len}
+use Rattle.table.specs.Cut.{field}
+use Rattle.table.specs.Fields.{is_number, number, has_shape, is_name, is_within}
+use Rattle.cache.specs.Field.{read_set}
+use Rattle.table.specs.declared.refusals.Reason.TheVariants.{Shape, Name, Number, Range, Marks, OtherTask}
+use Rattle.table.specs.Rows.{Conditions}
+use Rattle.table.specs.declared.tasks.Task.{Task}
+use Rattle.table.specs.Names.{has_name}
+use Rattle.table.specs.Tasks.{pack_name, no_sets}
+use Rattle.table.specs.declared.accesses.Access.{Access}
+use Rattle.table.specs.declared.accesses.line.AccessFields.{AccessFields}
+
+-- these are the fields of an access line, which has five, and `A` the first
+pub record AreFieldsOf (line : List ℕ) (f : AccessFields) : Type 0 where
+  pub shaped : has_shape 65 5 line ≡ true
+  pub task : f.task.now ≡ field 1 line
+  pub ceiling : f.ceiling.now ≡ field 2 line
+  pub lasts : f.lasts.now ≡ field 3 line
+  pub ucb : f.ucb.now ≡ field 4 line
+
+-- the first position that has the name, and the number of tasks where none has
+abbrev pub position_named : List Task → List ℕ → ℕ
+position_named tasks name = position_or_len (has_name (pack_name name)) tasks
+
+-- what an access line says below these tasks: after `A` the names of the task and of its ceiling, the length and the UCB
+unfoldable pub access_said : ℕ → List Task → List ℕ → Access
+access_said sets tasks line = record {
+  task = position_named tasks (field 1 line);
+  ceiling = position_named tasks (field 2 line);
+  lasts = record { 0 = number (field 3 line) };
+  ucb = unwrap_or (read_set sets (field 4 line)) no_sets;
+}
+
+-- an access line below these tasks: both of its names are those of tasks, and the ceiling is the task or above it
+unfoldable pub access_rows : ℕ → List Task → List ℕ → Conditions
+access_rows sets tasks line =
+    let task = position_named tasks (field 1 line) in
+    let ceiling = position_named tasks (field 2 line) in
+    (not (has_shape 65 5 line), Shape)
+    ∷ (not (is_name (field 1 line) && is_name (field 2 line)), Name)
+    ∷ (not (is_number (field 3 line)), Number)
+    ∷ (not (is_within 1 250000000 (number (field 3 line))), Range)
+    ∷ (not (is_some (read_set sets (field 4 line))), Marks)
+    ∷ (not (nat_lt task (length tasks) && nat_le ceiling task), OtherTask)
+    ∷ []

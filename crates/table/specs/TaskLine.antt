@@ -1,0 +1,87 @@
+-- What a task line says, field by field, and its refusals, each with its condition, in the order in which they are tried.
+-- Assumes nothing.
+use Rattle.std.specs.Prelude.{ℕ, List, [], ◌∷◌, Bool, ◌≡◌, true, not, ◌&&◌, Option, Some, None, is_some, unwrap_or, if◌then◌else◌, nat_le}
+use Rattle.table.specs.Cut.{field}
+use Rattle.table.specs.Fields.{is_number, number, has_shape, is_name, is_within}
+use Rattle.cache.specs.Field.{read_set}
+use Rattle.table.specs.declared.refusals.Reason.TheVariants.{Shape, Name, Number, Range, Marks, Order, KnownName}
+use Rattle.table.specs.Rows.{Conditions}
+use Rattle.table.specs.declared.tasks.Task.{Task}
+use Rattle.table.specs.declared.tasks.line.TaskFields.{TaskFields}
+use Rattle.table.specs.declared.tasks.line.Times.{Times}
+use Rattle.table.specs.Names.{knows}
+use Rattle.table.specs.Tasks.{pack_name, no_sets}
+
+-- these are the fields of a task line, which has nine, and `T` the first
+pub record AreFieldsOf (line : List ℕ) (f : TaskFields) : Type 0 where
+  pub shaped : has_shape 84 9 line ≡ true
+  pub name : f.name.now ≡ field 1 line
+  pub work : f.work.now ≡ field 2 line
+  pub period : f.period.now ≡ field 3 line
+  pub deadline : f.deadline.now ≡ field 4 line
+  pub jitter : f.jitter.now ≡ field 5 line
+  pub blocking : f.blocking.now ≡ field 6 line
+  pub ucb : f.ucb.now ≡ field 7 line
+  pub ecb : f.ecb.now ≡ field 8 line
+
+-- the times that fields say: C, T, D, J and B
+abbrev pub times_said : (work period deadline jitter blocking : List ℕ) → Times
+times_said work period deadline jitter blocking = record {
+  work = record { 0 = number work };
+  period = record { 0 = number period };
+  deadline = record { 0 = number deadline };
+  jitter = record { 0 = number jitter };
+  blocking = record { 0 = number blocking };
+}
+
+abbrev pub are_numbers : (work period deadline jitter blocking : List ℕ) → Bool
+are_numbers work period deadline jitter blocking =
+    is_number work && is_number period && is_number deadline && is_number jitter && is_number blocking
+
+unfoldable pub read_times : (work period deadline jitter blocking : List ℕ) → Option Times
+read_times work period deadline jitter blocking =
+    if are_numbers work period deadline jitter blocking then Some (times_said work period deadline jitter blocking) else None
+
+-- the times of a task
+abbrev pub times_of : Task → Times
+times_of t = record { work = t.work; period = t.period; deadline = t.deadline; jitter = t.jitter; blocking = t.blocking }
+
+-- the ranges of a task's times: J and B may be 0
+unfoldable pub times_in_range : Times → Bool
+times_in_range t =
+    is_within 1 250000000 t.work.0
+    && is_within 1 250000000 t.period.0
+    && is_within 1 250000000 t.deadline.0
+    && is_within 0 250000000 t.jitter.0
+    && is_within 0 250000000 t.blocking.0
+
+-- J ≤ D ≤ T
+unfoldable pub times_in_order : Times → Bool
+times_in_order t = nat_le t.jitter.0 t.deadline.0 && nat_le t.deadline.0 t.period.0
+
+-- what a task line says: after `T` the name, then the times, and the two sets (the empty one where a field is no set)
+unfoldable pub task_said : ℕ → List ℕ → Task
+task_said sets line =
+    let times = times_said (field 2 line) (field 3 line) (field 4 line) (field 5 line) (field 6 line) in record {
+      name = pack_name (field 1 line);
+      work = times.work;
+      period = times.period;
+      deadline = times.deadline;
+      jitter = times.jitter;
+      blocking = times.blocking;
+      ucb = unwrap_or (read_set sets (field 7 line)) no_sets;
+      ecb = unwrap_or (read_set sets (field 8 line)) no_sets;
+    }
+
+-- a task line below these tasks: each condition is looked for in every field before the next one is
+unfoldable pub task_rows : ℕ → List Task → List ℕ → Conditions
+task_rows sets above line =
+    let times = times_said (field 2 line) (field 3 line) (field 4 line) (field 5 line) (field 6 line) in
+    (not (has_shape 84 9 line), Shape)
+    ∷ (not (is_name (field 1 line)), Name)
+    ∷ (not (are_numbers (field 2 line) (field 3 line) (field 4 line) (field 5 line) (field 6 line)), Number)
+    ∷ (not (times_in_range times), Range)
+    ∷ (not (is_some (read_set sets (field 7 line)) && is_some (read_set sets (field 8 line))), Marks)
+    ∷ (not (times_in_order times), Order)
+    ∷ (knows (pack_name (field 1 line)) above, KnownName)
+    ∷ []

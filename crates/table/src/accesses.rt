@@ -1,0 +1,41 @@
+// Accesses to shared devices, and whom they may block. specs/Accesses.antt says who that is.
+
+mod line;
+
+ghost use Rattle.std.specs.Prelude.{◌≡◌};
+ghost use Rattle.table.specs.Accesses.{may_block, plain_access};
+
+use cache::sets::CacheSet;
+use crate::tasks::Task;
+use cache::units::Ticks;
+
+// An access: the positions of the task that makes it and of its ceiling, how long it lasts, and its UCB.
+#[derive(Clone, Copy, Default)]
+pub struct Access {
+    pub task: usize,
+    pub ceiling: usize,
+    pub lasts: Ticks,
+    pub ucb: CacheSet,
+}
+
+impl Access {
+    // Whether the task at i may have to wait for it: its own task is below i, and its ceiling is i or above.
+    pub fn may_block(self, i: usize) -> bool
+        ensures { result ≡ may_block i self }
+    {
+        (i < self.task) & (self.ceiling <= i)
+    }
+}
+
+// B of a task as an access.
+pub fn plain_access(task: Task) -> Access
+    ensures { result ≡ plain_access task }
+{
+    let lasts = task.blocking;
+    Access {
+        task: 0,
+        ceiling: 0,
+        lasts,
+        ucb: CacheSet::EMPTY,
+    }
+}

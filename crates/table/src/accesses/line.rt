@@ -1,0 +1,68 @@
+// An access line.
+ghost use Rattle.std.specs.Prelude.{◌≡◌, false, MatchOption};
+ghost use Rattle.table.specs.Fields.{has_shape};
+ghost use Rattle.table.specs.Rows.{unless_fault};
+ghost use Rattle.table.specs.AccessLine.{AreFieldsOf, access_rows, access_said};
+
+use crate::fields;
+use crate::tasks;
+use crate::accesses::Access;
+use crate::refusals::Reason;
+use cache::sets::CacheSet;
+use crate::tasks::{Name, Task};
+use crate::text::Fields;
+use cache::units::Ticks;
+
+// The fields of an access line, behind the first.
+#[derive(Clone, Copy)]
+struct AccessFields<'a> {
+    task: &'a [u8],
+    ceiling: &'a [u8],
+    lasts: &'a [u8],
+    ucb: &'a [u8],
+}
+
+fn cut(line: &[u8]) -> Option<AccessFields<'_>>
+    ensures { MatchOption result (has_shape 65 5 line.now ≡ false) (AreFieldsOf line.now) }
+{
+    let mut fields = Fields::of(line);
+    if fields.next()? != b"A".as_slice() {
+        return None;
+    }
+    let cut = AccessFields {
+        task: fields.next()?,
+        ceiling: fields.next()?,
+        lasts: fields.next()?,
+        ucb: fields.next()?,
+    };
+    if fields.is_done() { Some(cut) } else { None }
+}
+
+impl Access {
+    // The access that a line says in a table of so many cache sets, below these tasks, or its first refusal.
+    #[tactic(auto, using(std::proofs::lemmas::Bool::Decides::nat_tests), unfolding(crate::specs::AccessLine::access_rows, crate::specs::AccessLine::access_said, crate::specs::Rows::unless_fault))]
+    pub fn read(line: &[u8], sets: u64, tasks: &[Task]) -> Result<Access, Reason>
+        ensures { result ≡ unless_fault (access_rows sets tasks.now line.now) (access_said sets tasks.now line.now) }
+    {
+        let fields = cut(line).ok_or(Reason::Shape)?;
+        if !(fields::is_name(fields.task) && fields::is_name(fields.ceiling)) {
+            return Err(Reason::Name);
+        }
+        let lasts = fields::read_number(fields.lasts).ok_or(Reason::Number)?;
+        if !fields::is_within(1, 250000000, lasts) {
+            return Err(Reason::Range);
+        }
+        let ucb = CacheSet::from_field(fields.ucb, sets).ok_or(Reason::Marks)?;
+        let task = tasks::position_of(Name::of(fields.task), tasks).ok_or(Reason::OtherTask)?;
+        let ceiling = tasks::position_of(Name::of(fields.ceiling), tasks).ok_or(Reason::OtherTask)?;
+        if task < ceiling {
+            return Err(Reason::OtherTask);
+        }
+        Ok(Access {
+            task,
+            ceiling,
+            lasts: Ticks(lasts),
+            ucb,
+        })
+    }
+}

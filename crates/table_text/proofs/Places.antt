@@ -1,0 +1,60 @@
+-- Places without a task, and without an access. Assumes nothing.
+use Rattle.std.proofs.Common.{◌≡◌, true, refl, replicate, eqb-true}
+use Rattle.std.proofs.lemmas.Slice.Eq.{bytes_eq-Decides}
+use Rattle.table.specs.declared.tasks.Task.{Task}
+use Rattle.table.specs.Tasks.{empty_task}
+use Rattle.table.proofs.LineLaws.{both}
+use Rattle.table.specs.declared.accesses.Access.{Access}
+use Rattle.table.specs.Accesses.{empty_access}
+use Rattle.writing.specs.Marks.{bits_in, marks_fit}
+use Rattle.writing.proofs.Fields.{none-fit}
+use Rattle.table_text.specs.Tests.{is_vacant, is_unused}
+
+pub empty-vacant : is_vacant empty_task ≡ true
+unfolding is_vacant marks_fit bits_in
+empty-vacant = refl
+
+pub vacant-empty : (t : Task) → is_vacant t ≡ true → t ≡ empty_task
+unfolding is_vacant
+vacant-empty t e8 =
+    let e7 = both _ _ e8 in
+    let e6 = both _ _ e7.0 in
+    let e5 = both _ _ e6.0 in
+    let e4 = both _ _ e5.0 in
+    let e3 = both _ _ e4.0 in
+    let e2 = both _ _ e3.0 in
+    let e1 = both _ _ e2.0 in
+    let name = (bytes_eq-Decides t.name.bytes (replicate 12 0)).0 e1.0 in
+    let work = eqb-true t.work.0 0 e1.1 in
+    let period = eqb-true t.period.0 0 e2.1 in
+    let deadline = eqb-true t.deadline.0 0 e3.1 in
+    let jitter = eqb-true t.jitter.0 0 e4.1 in
+    let blocking = eqb-true t.blocking.0 0 e5.1 in
+    let ucb = none-fit t.ucb e6.1 in
+    let ecb = none-fit t.ecb e7.1 in
+    λ i. record {
+      name = record { bytes = name i };
+      work = record { 0 = work i };
+      period = record { 0 = period i };
+      deadline = record { 0 = deadline i };
+      jitter = record { 0 = jitter i };
+      blocking = record { 0 = blocking i };
+      ucb = ucb i;
+      ecb = ecb i;
+    }
+
+pub empty-unused : is_unused empty_access ≡ true
+unfolding is_unused marks_fit bits_in
+empty-unused = refl
+
+pub unused-empty : (a : Access) → is_unused a ≡ true → a ≡ empty_access
+unfolding is_unused
+unused-empty a e4 =
+    let e3 = both _ _ e4 in
+    let e2 = both _ _ e3.0 in
+    let e1 = both _ _ e2.0 in
+    let task = eqb-true a.task 0 e1.0 in
+    let ceiling = eqb-true a.ceiling 0 e1.1 in
+    let lasts = eqb-true a.lasts.0 0 e2.1 in
+    let ucb = none-fit a.ucb e3.1 in
+    λ i. record { task = task i; ceiling = ceiling i; lasts = record { 0 = lasts i }; ucb = ucb i }

@@ -1,0 +1,296 @@
+-- Reading and writing go back and forth: a text that is accepted is its table's text, and the text of a table that passes the tests is accepted as that table.
+-- So the tests tell just which tables a text gives. Assumes nothing.
+use Rattle.std.proofs.Common.{◌≡◌, ℕ, zero, suc, ◌+◌, ◌-◌, ◌%◌, ◌≤◌, ◌<◌, Bool, true, false, ◌&&◌, ◌||◌, List, [], ◌∷◌, ◌++◌, length, take, drop, get_or, map, flat_map, refl, sym, ap, ◌∙◌, arith, length-append, append-nil, append_assoc, Result, Ok, Err, leb-true, le-leb, le-ltb}
+use Rattle.std.proofs.Math.Bool.{and-eq-true_iff}
+use Rattle.std.proofs.Math.Seq.{length-take-le, get_or-take}
+use Rattle.std.proofs.lemmas.Bool.{false≢true, lt-leb}
+use Rattle.std.proofs.lemmas.List.{map-append}
+use Rattle.std.proofs.lemmas.List.Folds.{flat_map-map}
+use Rattle.std.proofs.lemmas.List.Splits.{join_with_byte-slice_split}
+use Rattle.std.specs.Prelude.{is_ok, IsTrue, ◌↔◌}
+use Rattle.std.specs.List.{list_all, list_any, join_with_byte}
+use Rattle.table.specs.Cut.{fields, lines}
+use Rattle.table.specs.declared.refusals.Refusal.{Refusal}
+use Rattle.table.specs.Rows.{Conditions, unless_fault}
+use Rattle.table.proofs.RowLaws.{fine-any}
+use Rattle.table.specs.declared.tasks.Task.{Task}
+use Rattle.table.specs.declared.tasks.head.Head.{Head}
+use Rattle.table.specs.Tasks.{blank, empty_task}
+use Rattle.table.specs.Names.{has_name, knows}
+use Rattle.table.specs.HeadLine.{head_in_range, head_rows, head_said}
+use Rattle.table.proofs.LineLaws.{both}
+use Rattle.table.specs.declared.accesses.Access.{Access}
+use Rattle.table.specs.Accesses.{empty_access}
+use Rattle.table.specs.declared.Table.{Table}
+use Rattle.table.specs.Tables.{tasks_of, accesses_of, new_table, with_task, with_access}
+use Rattle.table.specs.Accepted.{AcceptedTable}
+use Rattle.table.specs.Reading.{told, then_read, line_rows, with_line, ended, read_from, read_lines, read_text, is_ended, text_rows}
+use Rattle.table.proofs.AcceptedLaws.{accepted-lines}
+use Rattle.table_text.specs.TableText.{head_fields, task_fields, access_fields, lines_of, line_text, table_text}
+use Rattle.table_text.proofs.Lengths.{table-short}
+use Rattle.table_text.specs.Readable.{Whole, Readable}
+use Rattle.table_text.specs.Tests.{head_of, is_next, are_next, is_entered, is_vacant, is_unused, is_readable}
+use Rattle.table_text.proofs.Lines.{is-line, AreLines, are-lines-append, lines-written, ended-lines, is-ended}
+use Rattle.table_text.proofs.Places.{empty-vacant, vacant-empty, empty-unused, unused-empty}
+use Rattle.table_text.proofs.TaskLines.{filled-name, few-sets, sets-by-four, head-plain, head-says, head-fine, NextHolds, next-holds, task-plain, task-says, task-fine}
+use Rattle.table_text.proofs.AccessLines.{EnteredHolds, entered-holds, Named, access-plain, access-says, access-fine}
+use Rattle.table_text.proofs.Filled.{table_of, its-tasks, its-accesses, task-more, access-more, empty-all, filled-up, past}
+use Rattle.table_text.proofs.Reading.{Passed, lines_so_far, its-lines, Read, text-read}
+
+-- ---- tasks that pass the tests: each, and its name, which is that of no other
+
+pub next-at : (sets : ℕ) (above ts : List Task) (k : ℕ) (d : Task) → are_next sets above ts ≡ true → k < length ts → is_next sets (above ++ take k ts) (get_or ts k d) ≡ true
+unfolding are_next
+next-at sets above [] k d e h = absurd (omega arith)
+next-at sets above (t ∷ ts) zero d e h = rw (append-nil above) (both (is_next sets above t) _ e).0
+next-at sets above (t ∷ ts) (suc k) d e h =
+    rw (append_assoc above (t ∷ []) (take k ts)) at (next-at sets (above ++ (t ∷ [])) ts k d (both (is_next sets above t) _ e).1 (omega arith))
+
+none-any : {X : Type 0} (p : X → Bool) (l : List X) (d : X) → list_any p l ≡ false → (j : ℕ) → j < length l → p (get_or l j d) ≡ false
+none-any p [] d e j h = absurd (omega arith)
+none-any {X} p (x ∷ l) d e j h = go (p x) refl e (λ e j b. none-any p l d e j b) j h
+  where
+    go : (t : Bool) → p x ≡ t → (t || list_any p l) ≡ false → (list_any p l ≡ false → (j : ℕ) → j < length l → p (get_or l j d) ≡ false)
+        → (j : ℕ) → j < suc (length l) → p (get_or (x ∷ l) j d) ≡ false
+    go true q e ih j h = absurd (false≢true (sym e))
+    go false q e ih zero h = q
+    go false q e ih (suc j) h = ih e j (omega arith)
+
+pub named : (sets : ℕ) (ts : List Task) → are_next sets [] ts ≡ true → Named ts
+named sets ts e = record {
+  filled = λ k h. (next-holds sets (take k ts) (get_or ts k blank) (next-at sets [] ts k blank e h)).filled;
+  alone = λ j k b h.
+      let new = (next-holds sets (take k ts) (get_or ts k blank) (next-at sets [] ts k blank e h)).new-name in
+      rw (get_or-take k ts j blank b) at (none-any (has_name (get_or ts k blank).name) (take k ts) blank new j (omega (arith, length-take-le k ts (omega arith))));
+}
+
+pub tasks-lines : (sets : ℕ) (above ts : List Task) → are_next sets above ts ≡ true → AreLines (map (task_fields sets) ts)
+unfolding are_next
+tasks-lines sets above [] e = tt
+tasks-lines sets above (t ∷ ts) e =
+    let p = both (is_next sets above t) _ e in
+    (is-line _ _ (task-plain sets t (filled-name t.name (next-holds sets above t p.0).filled).0), tasks-lines sets (above ++ (t ∷ [])) ts p.1)
+
+-- ---- reading what is written
+
+-- a step that meets no condition
+step-fine : {X : Type 0} (line : ℕ) (rows : Conditions) (x : X) (next : X → Result Table Refusal) → unless_fault rows (tt {0}) ≡ Ok (tt {0}) → then_read (told line (unless_fault rows x)) next ≡ next x
+step-fine line rows x next e = rw (fine-any rows (tt {0}) x e).1
+
+module _ (h : Head) (e : head_in_range h ≡ true) where
+  few : h.sets ≤ 256
+  few = few-sets h e
+
+  by-four : h.sets % 4 ≡ 0
+  by-four = sets-by-four h e
+
+  -- a task line, where there is no access yet
+  module _ (done : List Task) (t : Task) (room : length done < 32) (n : NextHolds h.sets done t) (l : List ℕ) (f : fields l ≡ task_fields h.sets t) where
+    task-line-fine : unless_fault (line_rows (table_of h done []) l) (tt {0}) ≡ Ok (tt {0})
+    unfolding unless_fault
+    task-line-fine = rw (f, lt-leb 32 (length done) room, its-tasks h done []) (task-fine h.sets few by-four done t n l f)
+
+    task-line-adds : with_line (table_of h done []) l ≡ table_of h (done ++ (t ∷ [])) []
+    task-line-adds = rw (f, task-says h.sets few by-four done t n l f) (task-more h done [] t room)
+
+  read-tasks : (done todo : List Task) (rest : List (List ℕ)) (o : Result Table Refusal) → are_next h.sets done todo ≡ true → length done + length todo ≤ 32
+      → ((line : ℕ) → read_from line (table_of h (done ++ todo) []) rest ≡ o)
+      → (line : ℕ) → read_from line (table_of h done []) (map (join_with_byte 9) (map (task_fields h.sets) todo) ++ rest) ≡ o
+  unfolding read_from are_next
+  read-tasks done [] rest o p room then line = rw (append-nil done) at (then line)
+  read-tasks done (t ∷ todo) rest o p room then line =
+      let q = both (is_next h.sets done t) _ p in
+      let n = next-holds h.sets done t q.0 in
+      let here : length done < 32 = omega arith in
+      let l = join_with_byte 9 (task_fields h.sets t) in
+      let f = (is-line _ _ (task-plain h.sets t (filled-name t.name n.filled).0)).0 in
+      let others = map (join_with_byte 9) (map (task_fields h.sets) todo) ++ rest in
+      step-fine line (line_rows (table_of h done []) l) (with_line (table_of h done []) l) (λ table. read_from (line + 1) table others) (task-line-fine done t here n l f)
+      ∙ ap (λ (table : Table). read_from (line + 1) table others) (task-line-adds done t here n l f)
+      ∙ read-tasks (done ++ (t ∷ [])) todo rest o q.1 (rw length-append (omega arith)) (λ line. rw (append_assoc done (t ∷ []) todo) (then line)) (line + 1)
+
+  -- an access line, after all tasks
+  module _ (ts : List Task) (names : Named ts) where
+    module _ (done : List Access) (a : Access) (room : length done < 32) (n : EnteredHolds h.sets (length ts) a) (l : List ℕ) (f : fields l ≡ access_fields h.sets ts a) where
+      access-line-fine : unless_fault (line_rows (table_of h ts done) l) (tt {0}) ≡ Ok (tt {0})
+      unfolding unless_fault
+      access-line-fine = rw (f, lt-leb 32 (length done) room, its-tasks h ts done) (access-fine h.sets few by-four ts names a n l f)
+
+      access-line-adds : with_line (table_of h ts done) l ≡ table_of h ts (done ++ (a ∷ []))
+      access-line-adds = rw (f, its-tasks h ts done, access-says h.sets few by-four ts names a n l f) (access-more h ts done a room)
+
+    read-accesses : (done todo : List Access) → list_all (is_entered h.sets (length ts)) todo ≡ true → length done + length todo ≤ 32 → is_ok (ended (table_of h ts (done ++ todo))) ≡ true
+        → (line : ℕ) → read_from line (table_of h ts done) (map (join_with_byte 9) (map (access_fields h.sets ts) todo)) ≡ Ok (table_of h ts (done ++ todo))
+    unfolding read_from
+    read-accesses done [] p room ends line = rw (append-nil done) (at-end (ended (table_of h ts done)) (rw (append-nil done) at ends))
+      where
+        at-end : (r : Result (Unit {0}) Refusal) → is_ok r ≡ true → then_read r (λ _. Ok (table_of h ts done)) ≡ Ok (table_of h ts done)
+        at-end (Ok u) q = refl
+        at-end (Err refusal) q = absurd (false≢true q)
+    read-accesses done (a ∷ todo) p room ends line =
+        let q = both (is_entered h.sets (length ts) a) _ p in
+        let n = entered-holds h.sets (length ts) a q.0 in
+        let here : length done < 32 = omega arith in
+        let all : (done ++ (a ∷ [])) ++ todo ≡ done ++ a ∷ todo = append_assoc done (a ∷ []) todo in
+        let l = join_with_byte 9 (access_fields h.sets ts a) in
+        let f = (is-line _ _ (access-plain h.sets few by-four ts names a n)).0 in
+        let others = map (join_with_byte 9) (map (access_fields h.sets ts) todo) in
+        step-fine line (line_rows (table_of h ts done) l) (with_line (table_of h ts done) l) (λ table. read_from (line + 1) table others) (access-line-fine done a here n l f)
+        ∙ ap (λ (table : Table). read_from (line + 1) table others) (access-line-adds done a here n l f)
+        ∙ rw all at (read-accesses (done ++ (a ∷ [])) todo q.1 (rw length-append (omega arith)) (rw all ends) (line + 1))
+
+    pub accesses-lines : (todo : List Access) → list_all (is_entered h.sets (length ts)) todo ≡ true → AreLines (map (access_fields h.sets ts) todo)
+    accesses-lines [] p = tt
+    accesses-lines (a ∷ todo) p =
+        let q = both (is_entered h.sets (length ts) a) _ p in
+        (is-line _ _ (access-plain h.sets few by-four ts names a (entered-holds h.sets (length ts) a q.0)), accesses-lines todo q.1)
+
+-- lists that pass the tests are read as their table, where it may end
+module _ (h : Head) (ts : List Task) (accesses : List Access) (p : Passed h ts accesses) where
+  names-of : Named ts
+  names-of = named h.sets ts p.tasks
+
+  read-lists : is_ok (ended (table_of h ts accesses)) ≡ true → read_lines (map (join_with_byte 9) (lines_so_far h ts accesses)) ≡ Ok (table_of h ts accesses)
+  unfolding read_lines
+  read-lists ends =
+      let l = join_with_byte 9 (head_fields h.sets h.brt.0) in
+      let f = (is-line _ _ (head-plain h)).0 in
+      let task_lines = map (task_fields h.sets) ts in
+      let access_lines = map (access_fields h.sets ts) accesses in
+      let others = map (join_with_byte 9) (task_lines ++ access_lines) in
+      step-fine 1 (head_rows l) (head_said l) (λ head. read_from 2 (new_table head) others) (head-fine h p.head l f)
+      ∙ ap (λ (head : Head). read_from 2 (new_table head) others) (head-says h p.head l f)
+      ∙ ap (λ (ls : List (List ℕ)). read_from 2 (table_of h [] []) ls) (map-append (join_with_byte 9) task_lines access_lines)
+      ∙ read-tasks h p.head [] ts (map (join_with_byte 9) access_lines) _ p.tasks (omega (arith, p.few)) (read-accesses h p.head ts names-of [] accesses p.entered (omega (arith, p.few-accesses)) ends) 2
+
+  lists-lines : AreLines (lines_so_far h ts accesses)
+  lists-lines =
+      (is-line _ _ (head-plain h), are-lines-append (map (task_fields h.sets) ts) (map (access_fields h.sets ts) accesses) (tasks-lines h.sets [] ts p.tasks) (accesses-lines h p.head ts names-of accesses p.entered))
+
+-- ---- a table that passes the tests
+
+record Tested (table : Table) : Type 0 where
+  few : table.count ≤ 32
+  few-accesses : table.access_count ≤ 32
+  head : head_in_range (head_of table) ≡ true
+  ends : is_ok (ended table) ≡ true
+  tasks : are_next table.sets [] (tasks_of table) ≡ true
+  entered : list_all (is_entered table.sets table.count) (accesses_of table) ≡ true
+  vacant : list_all is_vacant (drop table.count table.tasks) ≡ true
+  unused : list_all is_unused (drop table.access_count table.accesses) ≡ true
+
+tests : (table : Table) → is_readable table ≡ true → Tested table
+unfolding is_readable
+tests table e =
+    let p6 = both _ (list_all is_unused (drop table.access_count table.accesses)) e in
+    let p5 = both _ (list_all is_vacant (drop table.count table.tasks)) p6.0 in
+    let p4 = both _ (list_all (is_entered table.sets table.count) (accesses_of table)) p5.0 in
+    let p3 = both _ (are_next table.sets [] (tasks_of table)) p4.0 in
+    let p2 = both _ (is_ok (ended table)) p3.0 in
+    let p1 = both _ (head_in_range (head_of table)) p2.0 in
+    let p0 = both _ _ p1.0 in
+    record {
+      few = leb-true _ _ p0.0;
+      few-accesses = leb-true _ _ p0.1;
+      head = p1.1;
+      ends = p2.1;
+      tasks = p3.1;
+      entered = p4.1;
+      vacant = p5.1;
+      unused = p6.1;
+    }
+
+module _ (table : Table) (whole : Whole table) (e : is_readable table ≡ true) where
+  tested : Tested table
+  tested = tests table e
+
+  counted : length (tasks_of table) ≡ table.count
+  counted = length-take-le table.count table.tasks (omega (arith, whole.tasks, tested.few))
+
+  counted-accesses : length (accesses_of table) ≡ table.access_count
+  counted-accesses = length-take-le table.access_count table.accesses (omega (arith, whole.accesses, tested.few-accesses))
+
+  its-lists : Passed (head_of table) (tasks_of table) (accesses_of table)
+  its-lists = record {
+    head = tested.head;
+    few = omega (arith, counted, tested.few);
+    tasks = tested.tasks;
+    few-accesses = omega (arith, counted-accesses, tested.few-accesses);
+    entered = rw counted tested.entered;
+  }
+
+  of-lists : table ≡ table_of (head_of table) (tasks_of table) (accesses_of table)
+  of-lists =
+      let tasks = filled-up empty_task is_vacant vacant-empty table.tasks table.count whole.tasks tested.few tested.vacant in
+      let accesses = filled-up empty_access is_unused unused-empty table.accesses table.access_count whole.accesses tested.few-accesses tested.unused in
+      λ i. record { sets = table.sets; brt = table.brt; count = sym counted i; tasks = tasks i; access_count = sym counted-accesses i; accesses = accesses i }
+
+  its-ends : is_ok (ended (table_of (head_of table) (tasks_of table) (accesses_of table))) ≡ true
+  its-ends = ap (λ (t : Table). is_ok (ended t)) (sym of-lists) ∙ tested.ends
+
+  its-lines-read : read_lines (map (join_with_byte 9) (lines_of table)) ≡ Ok table
+  its-lines-read = read-lists (head_of table) (tasks_of table) (accesses_of table) its-lists its-ends ∙ ap Ok (sym of-lists)
+
+  -- it has all that may be used of an accepted table
+  pub readable-accepted : AcceptedTable table
+  readable-accepted = accepted-lines (map (join_with_byte 9) (lines_of table)) table its-lines-read
+
+  -- the text of the table is accepted as the table, the same value in every field
+  pub reads-back : read_text (table_text table) ≡ Ok table
+  unfolding read_text table_text unless_fault
+  reads-back =
+      let short = table-short table readable-accepted in
+      let cut = lines-written (lines_of table) (lists-lines (head_of table) (tasks_of table) (accesses_of table) its-lists) in
+      rw (le-ltb 16384 (length (flat_map line_text (lines_of table))) (omega arith), is-ended (head_fields table.sets table.brt.0) _, cut) its-lines-read
+
+-- ---- the two round trips, and what they say of the tests
+
+-- lists that are read, in the table that is made of them
+module _ (h : Head) (ts : List Task) (accesses : List Access) (p : Passed h ts accesses) where
+  pub lists-readable : is_ok (ended (table_of h ts accesses)) ≡ true → is_readable (table_of h ts accesses) ≡ true
+  unfolding is_readable
+  lists-readable ends =
+      rw (
+        le-leb (length ts) 32 p.few,
+        le-leb (length accesses) 32 p.few-accesses,
+        p.head,
+        ends,
+        its-tasks h ts accesses,
+        p.tasks,
+        its-accesses h ts accesses,
+        p.entered,
+        past empty_task ts,
+        empty-all empty_task is_vacant empty-vacant (32 - length ts),
+        past empty_access accesses,
+        empty-all empty_access is_unused empty-unused (32 - length accesses),
+      )
+
+-- a table that a text gives passes the tests
+pub given-readable : (table : Table) → Readable table → is_readable table ≡ true
+given-readable table (text, e) =
+    let r = (text-read text table e).1 in
+    rw r.is (lists-readable r.head r.tasks r.others r.passed (rw r.is at r.ends))
+
+-- a text that is accepted as a table is that table's text, byte for byte
+pub read-then-written : (text : List ℕ) (table : Table) → read_text text ≡ Ok table → text ≡ table_text table
+unfolding table_text
+read-then-written text table e =
+    let t = text-read text table e in
+    let r = t.1 in
+    let same : lines_of table ≡ map fields (lines text) = ap lines_of r.is ∙ its-lines r.head r.tasks r.others ∙ r.lines in
+    sym (ap (flat_map line_text) same ∙ flat_map-map line_text fields (lines text) ∙ joined-again (lines text) ∙ ended-lines text t.0)
+  where
+    joined-again : (ls : List (List ℕ)) → flat_map (λ l. line_text (fields l)) ls ≡ flat_map (λ l. l ++ (10 ∷ [])) ls
+    joined-again ls = ap (λ (f : List ℕ → List ℕ). flat_map f ls) (λ i l. join_with_byte-slice_split 9 l i ++ (10 ∷ []))
+
+-- the text of a table that some text gives is accepted as that table
+pub written-then-read : (table : Table) → Readable table → read_text (table_text table) ≡ Ok table
+written-then-read table (text, e) = rw (← read-then-written text table e) e
+
+-- a table value passes the tests just where some accepted text reads as it
+pub tests-are-meant : (table : Table) → Whole table → (is_readable table ≡ true → Readable table) × (Readable table → is_readable table ≡ true)
+tests-are-meant table whole = (λ e. (table_text table, reads-back table whole e), given-readable table)
+
+-- so a test that answers as they do tells it
+pub meant : (table : Table) → Whole table → (passes : Bool) → passes ≡ is_readable table → IsTrue passes ↔ Readable table
+meant table whole passes e = let m = tests-are-meant table whole in (λ t. m.0 (sym e ∙ t), λ r. e ∙ m.1 r)

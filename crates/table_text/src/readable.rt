@@ -1,0 +1,122 @@
+// Whether a table value is one that a text gives. specs/Readable.antt says what that means, and specs/Tests.antt has the tests.
+
+ghost use Rattle.std.specs.Prelude.{◌≡◌, ◌↔◌, IsTrue, [], drop};
+ghost use Rattle.std.specs.List.{list_all};
+ghost use Rattle.table.specs.Tables.{tasks_of, accesses_of};
+ghost use Rattle.table_text.specs.Readable.{Whole, Readable};
+ghost use Rattle.table_text.specs.Tests.{head_of, is_next, are_next, is_entered, is_vacant, is_unused, is_readable};
+
+use table::fields;
+use table::accesses::Access;
+use writing::marks::marks_fit;
+use table::Table;
+use table::tasks::{Head, Task, is_known};
+
+// Whether a line can say a task in a table of so many cache sets, below these tasks.
+#[tactic(auto, unfolding(crate::specs::Tests::is_next))]
+fn is_next(sets: u64, above: &[Task], task: &Task) -> bool
+    ensures { result ≡ is_next sets above.now task.now }
+{
+    task.name.is_filled()
+        & task.is_timely()
+        & marks_fit(sets, task.ucb)
+        & marks_fit(sets, task.ecb)
+        & !is_known(task.name, above)
+}
+
+// Whether lines can say these tasks, each below those above it.
+fn are_next(sets: u64, tasks: &[Task]) -> bool
+    ensures { result ≡ are_next sets [] tasks.now }
+{
+    for (k, task) in tasks.iter().enumerate() {
+        if !is_next(sets, &tasks[..k], task) {
+            return false;
+        }
+    }
+    true
+}
+
+// Whether a line can say an access in a table of so many cache sets, below so many tasks.
+#[tactic(auto, unfolding(crate::specs::Tests::is_entered))]
+fn is_entered(sets: u64, count: usize, access: &Access) -> bool
+    ensures { result ≡ is_entered sets count access.now }
+{
+    fields::is_within(1, 250000000, access.lasts.0)
+        & marks_fit(sets, access.ucb)
+        & (access.task < count)
+        & (access.ceiling <= access.task)
+}
+
+fn are_entered(sets: u64, count: usize, accesses: &[Access]) -> bool
+    ensures { result ≡ list_all (is_entered sets count) accesses.now }
+{
+    accesses
+        .iter()
+        .all(|access| is_entered(sets, count, access))
+}
+
+// Whether a place has no task: a set without marks fits where there is no cache set.
+#[tactic(auto, unfolding(crate::specs::Tests::is_vacant))]
+fn is_vacant(task: &Task) -> bool
+    ensures { result ≡ is_vacant task.now }
+{
+    fields::same_bytes(&task.name.bytes, &[0; 12])
+        & (task.work.0 == 0)
+        & (task.period.0 == 0)
+        & (task.deadline.0 == 0)
+        & (task.jitter.0 == 0)
+        & (task.blocking.0 == 0)
+        & marks_fit(0, task.ucb)
+        & marks_fit(0, task.ecb)
+}
+
+fn are_vacant(places: &[Task]) -> bool
+    ensures { result ≡ list_all is_vacant places.now }
+{
+    places.iter().all(|task| is_vacant(task))
+}
+
+// Whether a place has no access.
+#[tactic(auto, unfolding(crate::specs::Tests::is_unused))]
+fn is_unused(access: &Access) -> bool
+    ensures { result ≡ is_unused access.now }
+{
+    (access.task == 0) & (access.ceiling == 0) & (access.lasts.0 == 0) & marks_fit(0, access.ucb)
+}
+
+fn are_unused(places: &[Access]) -> bool
+    ensures { result ≡ list_all is_unused places.now }
+{
+    places.iter().all(|access| is_unused(access))
+}
+
+// Whether a table passes the tests.
+#[tactic(auto, unfolding(crate::specs::Tests::is_readable))]
+fn passes(table: &Table) -> bool
+    ensures test { result ≡ is_readable table.now }
+    ensures whole { Whole table.now }
+{
+    let places = &table.tasks;
+    let access_places = &table.accesses;
+    if 32 < table.count || 32 < table.access_count {
+        return false;
+    }
+    let head = Head {
+        sets: table.sets,
+        brt: table.brt,
+    };
+    head.in_range()
+        && table.check_end().is_ok()
+        && are_next(table.sets, table.tasks())
+        && are_entered(table.sets, table.count, table.accesses())
+        && are_vacant(&places[table.count..])
+        && are_unused(&access_places[table.access_count..])
+}
+
+// Whether some accepted text reads as this table.
+pub fn is_readable(table: &Table) -> bool
+    ensures test { result ≡ is_readable table.now }
+    ensures meant { IsTrue result ↔ Readable table.now }
+{
+    passes(table)
+}

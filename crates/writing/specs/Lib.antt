@@ -1,0 +1,4 @@
+pub mod Text
+pub mod Marks
+pub mod Delivery
+pub mod Error
