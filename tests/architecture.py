@@ -2,7 +2,8 @@
 """Holds docs/ARCHITECTURE.md to crates.txt, so that the page cannot say what is no longer so. Each crate stands once in the drawing, as [NAME],
 and once in the list, as a row that begins | `NAME` |, and no other name does. In the drawing each stands on a line below those of all crates
 that it uses, and of two that a line joins the lower uses the upper. None uses a crate that its row names in the last column, where it says
-what the crate may not know. Each name is counted once; the last line is `N passed, M failed`."""
+what the crate may not know. Each public module of a crate stands once in the list of modules, as a row that begins | `NAME::MODULE` |, and no other
+does. Each name is counted once; the last line is `N passed, M failed`."""
 import itertools
 import os
 import re
@@ -12,6 +13,8 @@ ROOT = os.path.join(os.path.dirname(os.path.abspath(__file__)), "..")
 DRAWING = re.compile(r"^```\n(.*?)^```$", re.M | re.S)  # the page's code
 DRAWN = re.compile(r"\[(\w+)\]")
 ROW = re.compile(r"^\| `(\w+)` \| (.+) \| (.+) \|$", re.M)
+MODULE_ROW = re.compile(r"^\| `(\w+::\w+)` \|", re.M)
+MODULE = re.compile(r"^pub mod (\w+);", re.M)
 NAMED = re.compile(r"`(\w+)`")
 UP, DOWN, LEFT, RIGHT = (-1, 0), (1, 0), (0, -1), (0, 1)
 LEADS = {
@@ -33,6 +36,15 @@ def uses(text):
     """Of each crate of crates.txt what it uses, the kit's libraries too."""
     lines = (line.partition("#")[0].partition(":") for line in text.splitlines())
     return {name.split()[0]: used.split() for name, colon, used in lines if colon}  # what kind of crate it is may stand after the name
+
+
+def modules(name):
+    """The public modules of a crate, each as NAME::MODULE. A program has none."""
+    path = os.path.join(ROOT, "crates", name, "src", "lib.rt")
+    if not os.path.exists(path):
+        return []
+    with open(path, encoding="utf-8") as file:
+        return ["%s::%s" % (name, module) for module in MODULE.findall(file.read())]
 
 
 def boxes(drawing):
@@ -59,8 +71,8 @@ def joined(drawing):
         yield names
 
 
-def complaints(used, page):
-    """Of each crate, and of each other name on the page, what the page has wrong."""
+def complaints(used, there, page):
+    """Of each crate, of each public module (there), and of each other name on the page, what the page has wrong."""
     drawing = "".join(DRAWING.findall(page))
     drawn = [(name, places[0][0]) for name, places in boxes(drawing)]
     height = dict(drawn)
@@ -87,6 +99,13 @@ def complaints(used, page):
                 wrong[name].append("it may not know %s, of which crates.txt has nothing" % other)
             elif other in used.get(name, []):
                 wrong[name].append("it may not know %s, and uses it" % other)
+    listed = MODULE_ROW.findall(page)
+    for module in dict.fromkeys([*there, *listed]):
+        wrong[module] = []
+        if module not in there:
+            wrong[module].append("there is no such module")
+        if listed.count(module) != 1:
+            wrong[module].append("it stands %d times in the list of modules" % listed.count(module))
     return wrong
 
 
@@ -94,7 +113,7 @@ def main():
     with open(os.path.join(ROOT, "crates.txt"), encoding="utf-8") as file:
         used = uses(file.read())
     with open(os.path.join(ROOT, "docs", "ARCHITECTURE.md"), encoding="utf-8") as file:
-        wrong = complaints(used, file.read())
+        wrong = complaints(used, [module for name in used for module in modules(name)], file.read())
     for name, found in wrong.items():
         for complaint in found:
             print("docs/ARCHITECTURE.md: %s: %s" % (name, complaint))

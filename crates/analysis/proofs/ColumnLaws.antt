@@ -1,5 +1,5 @@
 -- Facts about the columns that are carried down the rows. Assumes nothing.
-use Rattle.std.proofs.Common.{ℕ, ◌+◌, ◌≤◌, ◌<◌, arith, ◌≡◌, refl, sym, ap, ◌∙◌, List, below_more, length, get_or, set, length-set, get_or-set_same, get_or-set_other}
+use Rattle.std.proofs.Common.{ℕ, ◌+◌, ◌<◌, arith, ◌≡◌, refl, sym, ap, ◌∙◌, List, below_more, set, length-set, get_or-set_same, get_or-set_other}
 use Rattle.cache.specs.declared.sets.CacheSet.{CacheSet}
 use Rattle.cache.specs.Sets.{Set, ◌∪◌, ◌∩◌, size}
 use Rattle.cache.specs.Words.{members}
@@ -8,7 +8,6 @@ use Rattle.cache.proofs.WordLaws.{members-empty}
 use Rattle.cache.specs.declared.units.Reloads.{Reloads}
 use Rattle.table.specs.Tasks.{no_sets}
 use Rattle.table.specs.declared.accesses.Access.{Access}
-use Rattle.table.specs.Accesses.{added_by}
 use Rattle.table.proofs.AddedLaws.{added-above}
 use Rattle.search.specs.Positions.{hp}
 use Rattle.table.specs.declared.Table.{Table}

@@ -1,5 +1,5 @@
 -- Facts about the terms of a row that are put in. Assumes nothing.
-use Rattle.std.proofs.Common.{ℕ, ◌+◌, ◌≤◌, ◌<◌, zero-le, eq-or-lt_of_le, arith, ◌≡◌, refl, sym, ap, ◌∙◌, List, below_more, length, get_or, set, length-set, get_or-set_same, get_or-set_other}
+use Rattle.std.proofs.Common.{ℕ, ◌+◌, ◌≤◌, ◌<◌, zero-le, arith, ◌≡◌, sym, ap, ◌∙◌, below_more, set, length-set, get_or-set_same, get_or-set_other}
 use Rattle.std.proofs.Math.Decide.{dec_lt}
 use Rattle.search.specs.declared.demand.Term.{Term}
 use Rattle.search.specs.Demand.{term_of}
@@ -12,7 +12,7 @@ use Rattle.analysis.specs.declared.costs.Charge.{Charge}
 use Rattle.analysis.specs.Costs.{reloads_in, reloads_of, reloads_with, term_with, term_at, term_under}
 use Rattle.analysis.proofs.CostLaws.{charge-past}
 use Rattle.analysis.specs.declared.carried.Terms.{Terms}
-use Rattle.analysis.specs.Carried.{terms_for, Long, Put, HasTerms, Weighed, WeighedUnder}
+use Rattle.analysis.specs.Carried.{terms_for, Long, Put, HasTerms, WeighedUnder}
 
 pub put-each : {j : ℕ} {v : Single → Term} {x y : Terms} → y.none ≡ set x.none j (v None) → y.ecb_only ≡ set x.ecb_only j (v EcbOnly)
     → y.ucb_only ≡ set x.ucb_only j (v UcbOnly) → y.ucb_union ≡ set x.ucb_union j (v UcbUnion) → y.ecb_union ≡ set x.ecb_union j (v EcbUnion)

@@ -12,14 +12,13 @@ ghost use Rattle.analysis.specs.declared.costs.Single.TheVariants.{UcbOnly, UcbU
 ghost use Rattle.analysis.specs.Row.{Charged};
 ghost use Rattle.analysis.specs.BlockedRow.{ChargedUnder, FewReloads, term_by};
 
-use crate::costs;
-use crate::one_row;
-use table::accesses::Access;
 use crate::costs::{Charge, Hit, Single};
-use search::demand::Term;
+use crate::{costs, one_row};
 use cache::sets::CacheSet;
-use table::Table;
 use cache::units::Ticks;
+use search::demand::Term;
+use table::Table;
+use table::accesses::Access;
 
 // UCB-only: the larger of what is there and the access's UCB.
 fn ucb_only(table: &Table, i: usize, access: Access, row: &mut [Charge; 32])

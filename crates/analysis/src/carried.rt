@@ -10,12 +10,12 @@ ghost use Rattle.analysis.specs.Gather.{union_of, hit, larger_of};
 ghost use Rattle.analysis.specs.Costs.{ecb_of, term_with};
 ghost use Rattle.analysis.specs.Carried.{Next, Small, count_of, Passing, Ledger, Long, Put, Weighed, WeighedUnder, RowWeighed};
 
-use table::accesses::Access;
 use crate::costs::{Hit, term};
-use search::demand::Term;
 use cache::sets::CacheSet;
-use table::Table;
 use cache::units::Reloads;
+use search::demand::Term;
+use table::Table;
+use table::accesses::Access;
 
 // What is gathered for a task over the positions below it, down to a row: the largest UCB, the union of the UCBs, and the most that one UCB shares with
 // the union of the ECBs down to the task's own; the first and the last with the position that has them. Beside it that union, and the size of its own ECB.

@@ -1,14 +1,14 @@
 // What pre-emption costs: reload counts with whom they hit, and what one activation asks for with them. specs/Costs.antt says what they are; what is
-// here is common to the two crates that work them out, for the rows of a report and for one row.
+// here is common to the two modules that work them out, for the rows of a report and for one row.
 
 ghost use Rattle.std.specs.Prelude.{◌≡◌, ◌<◌, ◌≤◌};
 ghost use Rattle.table.specs.Accepted.{AcceptedTable};
 ghost use Rattle.analysis.specs.Gather.{hit, larger_of};
 ghost use Rattle.analysis.specs.Costs.{reloads_in, with_hit, term_with};
 
+use cache::units::{Reloads, Ticks};
 use search::demand::Term;
 use table::Table;
-use cache::units::{Reloads, Ticks};
 
 // The methods that count reloads.
 #[derive(Clone, Copy)]

@@ -1,11 +1,17 @@
 // The response of a task under a method. specs/Analysis.antt says what a response is.
 #![tactic(auto)]
 
+// The same while an access blocks that task.
 pub mod blocked_row;
+// Costs carried down the rows of a report.
 pub mod carried;
+// What pre-emption costs: reload counts and weights.
 pub mod costs;
+// What a task needs, whatever its limit is, and by which method.
 pub mod need;
+// What the tasks above one task are charged and ask for.
 pub mod one_row;
+// The responses of all tasks under all methods.
 pub mod rows;
 
 ghost use Rattle.std.specs.Prelude.{◌≡◌, ◌<◌, ◌≤◌, length};
@@ -19,13 +25,12 @@ ghost use Rattle.analysis.specs.Row.{Charged};
 ghost use Rattle.analysis.specs.BlockedRow.{ChargedUnder};
 ghost use Rattle.analysis.specs.Analysis.{least_under, answer_of, response_of, method_of, Blocks};
 
-use search::response;
-use table::accesses;
-use table::accesses::Access;
 use crate::costs::{Charge, Single};
-use search::demand::{Response, Term};
-use table::Table;
 use cache::units::Ticks;
+use search::demand::{Response, Term};
+use search::response;
+use table::accesses::Access;
+use table::{Table, accesses};
 
 // The six methods.
 #[derive(Clone, Copy)]

@@ -7,14 +7,12 @@ ghost use Rattle.analysis.specs.Row.{Charged};
 ghost use Rattle.analysis.specs.Analysis.{least_under, Blocks};
 ghost use Rattle.analysis.specs.Needs.{is_sooner, need_with, larger_need, larger_of_some, smaller_of, needed_of, need_of};
 
-use crate::one_row;
-use table::accesses;
-use table::accesses::Access;
-use crate::Method;
 use crate::costs::{Charge, Single};
-use search::demand::Response;
-use table::Table;
+use crate::{Method, one_row};
 use cache::units::Ticks;
+use search::demand::Response;
+use table::accesses::Access;
+use table::{Table, accesses};
 
 // How far a need is looked for: no deadline is later.
 const FURTHEST: Ticks = Ticks(250000000);

@@ -9,10 +9,10 @@ ghost use Rattle.analysis.specs.declared.costs.Single.TheVariants.{EcbOnly, UcbO
 ghost use Rattle.analysis.specs.Row.{Charged, Evictors};
 
 use crate::costs::{Charge, Hit, Single};
-use shared::largest_shared;
 use cache::sets::CacheSet;
-use table::Table;
 use cache::units::Reloads;
+use shared::largest_shared;
+use table::Table;
 
 // ECB-only: as many as the pre-empting task's ECB has.
 fn ecb_only(table: &Table, i: usize, row: &mut [Charge; 32])

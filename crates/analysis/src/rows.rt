@@ -15,14 +15,13 @@ ghost use Rattle.analysis.specs.Analysis.{Blocks};
 ghost use Rattle.analysis.specs.Rows.{Answered, Rising, WithOne, row_told, plain_of, Left, no_row, row_of};
 
 use crate::carried;
-use search::response;
-use table::accesses;
-use table::accesses::Access;
 use crate::carried::{Column, Terms};
-use search::demand::{Response, Row, Term};
-use search::response::Count;
-use table::Table;
 use cache::units::Ticks;
+use search::demand::{Response, Row, Term};
+use search::response;
+use search::response::Count;
+use table::accesses::Access;
+use table::{Table, accesses};
 
 // The answers for one task under the methods that count.
 #[derive(Clone, Copy)]

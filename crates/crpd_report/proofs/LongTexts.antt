@@ -5,12 +5,13 @@ use Rattle.std.proofs.Math.Seq.{take-append_seam}
 use Rattle.std.proofs.lemmas.Bool.{lt-ltb}
 use Rattle.std.specs.Prelude.{Option}
 use Rattle.std.specs.Io.KnownBytes.{Consumes, Appends}
-use Rattle.faults.specs.Faults.{text_fault, first_fault}
+use Rattle.table.specs.declared.refusals.Reason.TheVariants.{TooLong}
+use Rattle.table.specs.Rows.{unless_fault}
 use Rattle.table.specs.Reading.{read_text, refused}
 use Rattle.crpd.specs.Operations.{printed}
 
-too_long : (text : List ℕ) → 16384 < length text → read_text text ≡ refused 1 0
-unfolding read_text text_fault first_fault
+too_long : (text : List ℕ) → 16384 < length text → read_text text ≡ refused TooLong 0
+unfolding read_text unless_fault
 too_long text long = rw (lt-ltb 16384 (length text) long) refl
 
 same_printed : (first second : List ℕ) → read_text first ≡ read_text second → printed first ≡ printed second

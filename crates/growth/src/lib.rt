@@ -3,6 +3,7 @@
 // is left, no other task is looked at.
 #![tactic(auto)]
 
+// Tables whose execution times are scaled.
 pub mod scaling;
 
 ghost use Rattle.std.specs.Prelude.{◌≡◌, min, max, ◌≤◌, ◌<◌, length};
@@ -22,18 +23,15 @@ ghost use Rattle.growth.specs.Scaling.{scaled_by};
 ghost use Rattle.growth.specs.Growth.{growth_of, Bounds};
 ghost use Rattle.growth.specs.Tried.{answers_under, Stretches, FitsUpTo};
 
-use analysis::blocked_row;
-use analysis::one_row;
-use search::response;
-use table::accesses;
-use table::accesses::Access;
-use analysis::Method;
-use analysis::costs::{Charge, Single};
-use search::demand::{Response, Term};
-use search::response::Count;
 use crate::scaling::scaled_work;
-use table::Table;
+use analysis::costs::{Charge, Single};
+use analysis::{Method, blocked_row, one_row};
 use cache::units::{Reloads, Ticks};
+use search::demand::{Response, Term};
+use search::response;
+use search::response::Count;
+use table::accesses::Access;
+use table::{Table, accesses};
 
 // The greatest k that is tried.
 const MOST_TRIED: u64 = 4000;

@@ -3,8 +3,8 @@
 ghost use Rattle.std.specs.Prelude.{◌≡◌, ◌≤◌};
 ghost use Rattle.growth.specs.Scaling.{scaled_work, scaled_by, Scalable};
 
-use table::Table;
 use cache::units::Ticks;
+use table::Table;
 
 // C times k thousandths, rounded up.
 pub fn scaled_work(work: Ticks, k: u64) -> Ticks

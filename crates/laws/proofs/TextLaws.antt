@@ -1,24 +1,25 @@
 -- What is told of texts. Assumes nothing.
-use Rattle.std.proofs.Common.{ℕ, ◌≤◌, Bool, true, false, List, ◌++◌, length, take, drop, ◌≡◌, refl, sym, ap, ◌∙◌, arith, cond, ltb, Result, Ok, Err}
+use Rattle.std.proofs.Common.{ℕ, ◌≤◌, Bool, true, false, List, ◌++◌, length, take, drop, ◌≡◌, refl, sym, ◌∙◌, arith, cond, ltb, Result, Ok, Err}
 use Rattle.std.proofs.lemmas.Bool.{ltb-false, le-ltb}
 use Rattle.std.proofs.Math.Seq.{take_at}
 use Rattle.search.specs.declared.demand.Response.{Response}
 use Rattle.search.specs.declared.demand.Response.TheVariants.{Within}
-use Rattle.table.specs.declared.Refusal.{Refusal}
-use Rattle.table.specs.declared.Outcome.{Outcome}
-use Rattle.table.specs.declared.Ruling.{Ruling}
-use Rattle.table.specs.declared.Ruling.TheVariants.{Accepted}
+use Rattle.table.specs.declared.refusals.Reason.TheVariants as reason
+use Rattle.table.specs.declared.refusals.Refusal.{Refusal}
+use Rattle.table.specs.Numbers.{untold}
 use Rattle.table.specs.declared.Table.{Table}
-use Rattle.table.specs.Reading.{refusal, read_text, accepted}
+use Rattle.table.specs.Reading.{then_read, read_text}
 use Rattle.writing.proofs.Deliveries.{fitting}
 use Rattle.table_text.specs.TableText.{table_text}
 use Rattle.table_text.specs.Readable.{Readable}
 use Rattle.table_text.proofs.RoundTrip.{written-then-read}
+use Rattle.analysis.specs.declared.Method.{Method}
+use Rattle.analysis.specs.Analysis.{response_of}
 use Rattle.growth.specs.Growth.{growth_of}
-use Rattle.crpd.specs.Operations.{numbered, answer_to, method_ruling_of, growth_to, TextWritten, TextRewritten, TableWritten}
+use Rattle.crpd.specs.Operations.{numbered, position_in, answer_to, growth_to, TextWritten, TextRewritten, TableWritten}
 use Rattle.crpd.proofs.Easier.{easier-answers}
 use Rattle.laws.specs.declared.texts.TwoAnswers.{TwoAnswers}
-use Rattle.laws.specs.Texts.{ReadsAs, EasierTextRespondsFirst, IsTextGrowth, ComesBack}
+use Rattle.laws.specs.Texts.{EasierTextRespondsFirst, IsTextGrowth, ComesBack}
 use Rattle.laws.proofs.GrowthLaws.{is-growth}
 
 -- ---- two texts
@@ -26,14 +27,11 @@ use Rattle.laws.proofs.GrowthLaws.{is-growth}
 -- where there is an answer there is such a method
 answered-method : (text : List ℕ) (m i : ℕ) (a : Response) → answer_to text m i ≡ Ok a → m ≤ 5
 unfolding answer_to
-answered-method text m i a e = go (ltb 5 m) _ refl e
+answered-method text m i a e = go (ltb 5 m) (λ method. then_read (read_text text) (λ table. then_read (position_in table i) (λ i. Ok (response_of table method i)))) refl e
   where
-    go : (t : Bool) (rest : Result Response Refusal) → ltb 5 m ≡ t → cond t (Err (refusal 12)) rest ≡ Ok a → m ≤ 5
-    go true rest l q = let z : ◌≡◌ {A = ℕ} 0 1 = cc in absurd (omega arith)
-    go false rest l q = ltb-false 5 m l
-
-read-accepted : (text : List ℕ) (table : Table) → ReadsAs text table → (read_text text).ruling ≡ Accepted
-read-accepted text table e = ap (λ (o : Outcome). o.ruling) e
+    go : (t : Bool) (next : Method → Result Response Refusal) → ltb 5 m ≡ t → then_read (cond t (Err (untold reason.Method)) (Ok (numbered m))) next ≡ Ok a → m ≤ 5
+    go true next l q = let z : ◌≡◌ {A = ℕ} 0 1 = cc in absurd (omega arith)
+    go false next l q = ltb-false 5 m l
 
 pub easier-text-first : (first second : List ℕ) (m i : ℕ) (r : TwoAnswers) → r.first ≡ answer_to first m i → r.second ≡ answer_to second m i
     → EasierTextRespondsFirst first second m i r
@@ -43,15 +41,14 @@ easier-text-first first second m i r f s = record {
   harder = λ a b p q h R e.
       let answered = sym s ∙ e in
       let w =
-      easier-answers first second (read-accepted first a p) (read-accepted second b q) (rw (p, q) h) m i
-      (answered-method second m i (Within R) answered) R answered in
+      easier-answers first second a b p q h m i (answered-method second m i (Within R) answered) R answered in
       (w.0, f ∙ w.1, w.2);
 }
 
 -- ---- the growth
 
 pub text-growth : (text : List ℕ) (m : ℕ) (r : Result ℕ Refusal) → r ≡ growth_to text m → IsTextGrowth text m r
-unfolding growth_to method_ruling_of
+unfolding growth_to
 text-growth text m r e table p h =
     let k = growth_of (numbered m) table in
     (k, e ∙ rw (le-ltb _ _ h, p), is-growth table (text, p) (numbered m) k refl)
@@ -59,26 +56,31 @@ text-growth text m r e table p h =
 -- ---- there and back
 
 -- a text that fits is delivered
-fitting-ruled : {v : Ruling} {most : ℕ} {text before after : List ℕ} {r : Result ℕ Refusal} → v ≡ Accepted → most ≤ length before
-    → TextWritten v most text before r after → (r ≡ Ok (length text)) × (after ≡ text ++ drop (length text) before)
-fitting-ruled e h w =
-    let f = fitting (omega (arith, w.short e)) (record { answer = rw e at w.answer-is; buffer = rw e at w.buffer-is }) in
+fitting-made : {made : Result (List ℕ) Refusal} {most : ℕ} {text before after : List ℕ} {r : Result ℕ Refusal} → made ≡ Ok text → most ≤ length before
+    → TextWritten most made before r after → (r ≡ Ok (length text)) × (after ≡ text ++ drop (length text) before)
+fitting-made {text = text} e h w =
+    let f = fitting (omega (arith, w.short text e)) (record { answer = rw e at w.answer-is; buffer = rw e at w.buffer-is }) in
     (f.0, f.1.buffer-is)
 
 pub comes-back : (text before : List ℕ) (r : Result ℕ Refusal) (after : List ℕ) → 9293 ≤ length before → TextRewritten text before r after → ComesBack text before r after
-comes-back text before r after h w table e = fitting-ruled (read-accepted text table e) h w
+comes-back text before r after h w table e = fitting-made (rw e) h w
 
 module _ (table : Table) (readable : Readable table) (before after : List ℕ) (room : 9293 ≤ length before) where
   -- it is not refused
   pub not-refused : (e : Refusal) → TableWritten table before (Err e) after → ⊥
   not-refused e w =
-      let f = fitting-ruled (w.meant.given readable) room w.written in
+      let f = fitting-made (w.meant.given readable) room w.written in
       let z : ◌≡◌ {A = ℕ} 0 1 = cc in
       omega arith
 
   -- and what is written reads as the table
-  pub reads-again : (n : ℕ) → TableWritten table before (Ok n) after → read_text (take n after) ≡ accepted table
+  pub reads-again : (n : ℕ) → TableWritten table before (Ok n) after → read_text (take n after) ≡ Ok table
   reads-again n w =
-      let f = fitting-ruled (w.meant.given readable) room w.written in
+      let f = fitting-made (w.meant.given readable) room w.written in
       let all : n ≡ length (table_text table) = cc in
       rw (all, f.1, take_at (table_text table) (drop (length (table_text table)) before) (length (table_text table)) refl) (written-then-read table readable)
+
+-- what reading says of the table that is read
+pub read-back : (result : Result (Unit {0}) Refusal) (read table : Table) → then_read result (λ _. Ok read) ≡ Ok table → (result ≡ Ok tt) × (read ≡ table)
+read-back (Ok tt) read table e = (refl, cc)
+read-back (Err r) read table e = let z : ◌≡◌ {A = ℕ} 0 1 = cc in absurd (omega arith)

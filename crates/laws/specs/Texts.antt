@@ -2,9 +2,9 @@
 use Rattle.std.specs.Prelude.{ℕ, ◌≤◌, ◌≡◌, List, ◌++◌, length, drop, Result, Ok}
 use Rattle.cache.specs.declared.units.Ticks.{Ticks}
 use Rattle.search.specs.declared.demand.Response.TheVariants.{Within}
-use Rattle.table.specs.declared.Refusal.{Refusal}
+use Rattle.table.specs.declared.refusals.Refusal.{Refusal}
 use Rattle.table.specs.declared.Table.{Table}
-use Rattle.table.specs.Reading.{accepted, read_text}
+use Rattle.table.specs.Reading.{read_text}
 use Rattle.analysis.specs.Harder.{Harder}
 use Rattle.table_text.specs.Readable.{Readable}
 use Rattle.crpd.specs.Operations.{numbered, answer_to}
@@ -13,7 +13,7 @@ use Rattle.laws.specs.declared.texts.TwoAnswers.{TwoAnswers}
 
 -- the text is accepted as this table
 abbrev pub ReadsAs : List ℕ → Table → Type 0
-ReadsAs text table = read_text text ≡ accepted table
+ReadsAs text table = read_text text ≡ Ok table
 
 -- the two answers; and where both texts are accepted and the second's table is harder, line by line: if the second has a response, the first has one, and it is no
 -- larger

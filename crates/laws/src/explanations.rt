@@ -4,15 +4,11 @@ ghost use Rattle.table.specs.Accepted.{AcceptedTable};
 ghost use Rattle.report.specs.Explained.{Grounds};
 ghost use Rattle.laws.specs.Explanations.{sum_of, AddsUp, IsNeededAsAnswered};
 
-use analysis::blocked_row;
-use analysis::costs;
-use analysis::need;
-use analysis::one_row;
-use analysis::Method;
-use search::demand::Response;
 use analysis::need::Need;
-use table::Table;
+use analysis::{Method, blocked_row, costs, need, one_row};
 use cache::units::Ticks;
+use search::demand::Response;
+use table::Table;
 
 // What a task needs, and what the lines of its explanation add up to; 0 where the need is beyond.
 #[derive(Clone, Copy)]

@@ -5,9 +5,8 @@ ghost use Rattle.analysis.specs.Analysis.{response_of};
 ghost use Rattle.analysis.specs.Costs.{charge_at};
 ghost use Rattle.laws.specs.Figures.{IsFigured, IsChargeFigured};
 
-use analysis::one_row;
-use analysis::Method;
 use analysis::costs::{Charge, Single};
+use analysis::{Method, one_row};
 use search::demand::Response;
 use table::Table;
 

@@ -2,9 +2,10 @@
 // crates below. A law that holds of a function's answer on its own stands beside the equation that says which answer that is.
 #![tactic(auto)]
 
+// Any order of the tasks gives the same response.
 pub mod any_order;
+// Any worker gets the same answer.
 pub mod any_worker;
-
 pub mod explanations;
 pub mod figures;
 pub mod growths;

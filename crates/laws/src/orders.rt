@@ -11,9 +11,9 @@ ghost use Rattle.laws.specs.Equation.{Arrangement, response_arranged};
 ghost use Rattle.laws.specs.Orders.{EasierRespondsFirst};
 
 use analysis::Method;
+use cache::units::Ticks;
 use search::demand::{Response, Term};
 use table::Table;
-use cache::units::Ticks;
 
 // The responses of a task of a table, and of one of another table.
 #[derive(Clone, Copy)]

@@ -5,9 +5,9 @@ ghost use Rattle.search.specs.Terms.{term_in, Handed};
 ghost use Rattle.search.specs.Least.{least_of};
 ghost use Rattle.laws.specs.Solutions.{IsSmallest};
 
-use search::response;
-use search::demand::{Response, Term};
 use cache::units::Ticks;
+use search::demand::{Response, Term};
+use search::response;
 
 // The smallest time up to `limit` that equals its demand, for a task with `own` ticks of its own and with what those above it ask for.
 pub fn smallest(own: Ticks, terms: &[Term], limit: Ticks) -> Response

@@ -4,7 +4,8 @@ ghost use Rattle.crpd.specs.Operations.{growth_to};
 ghost use Rattle.laws.specs.Texts.{EasierTextRespondsFirst, IsTextGrowth, ComesBack, IsReadAgain};
 
 use search::demand::Response;
-use table::{Refusal, Ruling, Table};
+use table::Table;
+use table::refusals::Refusal;
 
 // What two texts are answered.
 #[derive(Clone, Copy)]
@@ -39,15 +40,11 @@ pub fn read_then_written(text: &[u8], out: &mut [u8; 9293]) -> Result<usize, Ref
 }
 
 // A table, written and then read.
-pub fn written_then_read(table: Table, again: &mut Table) -> Result<(), Refusal>
-    ensures { IsReadAgain table result again.new }
+pub fn written_then_read(table: &Table, again: &mut Table) -> Result<(), Refusal>
+    ensures { IsReadAgain table.now result again.new }
 {
     let mut out = [0u8; 9293];
     let len = crpd::write(table, &mut out)?;
-    let outcome = table::read(&out[..len]);
-    *again = outcome.table;
-    match outcome.ruling {
-        Ruling::Accepted => Ok(()),
-        Ruling::Refused(refusal) => Err(refusal),
-    }
+    *again = Table::empty();
+    again.read(&out[..len])
 }

@@ -6,12 +6,11 @@ ghost use Rattle.std.specs.Prelude.{◌<◌};
 ghost use Rattle.table.specs.Accepted.{AcceptedTable};
 ghost use Rattle.report.specs.Explained.{Explained};
 
-use analysis::need;
-use analysis::Method;
-use writing::delivery::deliver;
+use analysis::{Method, need};
 use lines::{write_need_line, write_reasons};
-use table::refusals::Refusal;
 use table::Table;
+use table::refusals::Refusal;
+use writing::delivery::deliver;
 use writing::writer::Draft;
 
 // The explanation of what a method answers for the task at i. It is written aside and delivered whole.

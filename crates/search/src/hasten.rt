@@ -6,8 +6,8 @@ ghost use Rattle.search.specs.Terms.{term_in, InRange, Handed};
 ghost use Rattle.search.specs.Least.{least_of, Reached};
 ghost use Rattle.search.specs.Hasten.{PartOf, TurnOf};
 
-use crate::shares;
 use crate::demand::{Response, Term};
+use crate::shares;
 use crate::shares::WHOLE;
 use cache::units::Ticks;
 

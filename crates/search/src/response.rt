@@ -7,8 +7,8 @@ ghost use Rattle.search.specs.Terms.{term_in, InRange, Handed};
 ghost use Rattle.search.specs.Least.{least_of};
 ghost use Rattle.search.specs.Counts.{count, count_in, once, missing_of, raised_to, asked_of, Kept, Raised, Started};
 
-use crate::hasten;
 use crate::demand::{Response, Term};
+use crate::hasten;
 use cache::units::Ticks;
 
 // After how many turns a search is hastened.

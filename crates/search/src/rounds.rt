@@ -9,11 +9,10 @@ ghost use Rattle.search.specs.Grouping.{ShortTaken};
 ghost use Rattle.search.specs.Classes.{shares_over, taken};
 ghost use Rattle.search.specs.Rounds.{Near, Lacking, LeastOver, Added, LacksIn, Blocked, IsStep, WindowsIn, Tabled, RoundsOf};
 
-use crate::grouping;
-use crate::shares;
 use crate::demand::Term;
 use crate::grouping::COUNTED;
 use crate::shares::WHOLE;
+use crate::{grouping, shares};
 
 // Places of a round's windows, and of those of all rounds.
 pub const SLOT: usize = 4096;

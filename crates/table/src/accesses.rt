@@ -5,8 +5,8 @@ mod line;
 ghost use Rattle.std.specs.Prelude.{◌≡◌};
 ghost use Rattle.table.specs.Accesses.{may_block, plain_access};
 
-use cache::sets::CacheSet;
 use crate::tasks::Task;
+use cache::sets::CacheSet;
 use cache::units::Ticks;
 
 // An access: the positions of the task that makes it and of its ceiling, how long it lasts, and its UCB.

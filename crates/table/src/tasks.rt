@@ -1,13 +1,13 @@
-// Tasks, and the lines that say them: line 1, and a task line. specs/TaskLines.antt says it field by field, with the refusals as rows.
+// Tasks, and the lines that say them: line 1, and a task line. specs/HeadLine.antt and specs/TaskLine.antt say it field by field, with the refusals as rows.
 
 mod head;
 mod line;
 mod name;
 
-pub use head::Head;
-pub use name::{Name, is_known, position_of};
 use cache::sets::CacheSet;
 use cache::units::Ticks;
+pub use head::Head;
+pub use name::{Name, is_known, position_of};
 
 // A task: its name, C, T, D, J, B, UCB and ECB.
 #[derive(Clone, Copy, Default)]

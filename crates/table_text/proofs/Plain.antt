@@ -8,9 +8,9 @@ use Rattle.table.specs.Bytes.{is_name_byte}
 use Rattle.table.specs.Fields.{is_name}
 use Rattle.cache.specs.declared.sets.CacheSet.{CacheSet}
 use Rattle.cache.specs.Words.{number_of}
-use Rattle.writing.specs.Text.{digit_byte, spelled}
+use Rattle.writing.specs.Text.{digit_byte, spelled, hex_byte, hex_digits}
 use Rattle.writing.proofs.Spelling.{spelled_low, spelled_high, by_digits}
-use Rattle.writing.specs.Marks.{hex_byte, hex_digits, marks_text}
+use Rattle.writing.specs.Marks.{marks_text}
 use Rattle.table_text.proofs.Lines.{Plain, plain-append}
 
 pub number-plain : (n : ℕ) → Plain (spelled n)

@@ -6,11 +6,10 @@ ghost use Rattle.table.specs.Tables.{tasks_of, accesses_of};
 ghost use Rattle.table_text.specs.Readable.{Whole, Readable};
 ghost use Rattle.table_text.specs.Tests.{head_of, is_next, are_next, is_entered, is_vacant, is_unused, is_readable};
 
-use table::fields;
 use table::accesses::Access;
-use writing::marks::marks_fit;
-use table::Table;
 use table::tasks::{Head, Task, is_known};
+use table::{Table, fields};
+use writing::marks::marks_fit;
 
 // Whether a line can say a task in a table of so many cache sets, below these tasks.
 #[tactic(auto, unfolding(crate::specs::Tests::is_next))]

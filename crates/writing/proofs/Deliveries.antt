@@ -1,11 +1,10 @@
 -- Deliveries of a text: where it fits it is put at the buffer's start. How long the line of a refusal is. Assumes nothing.
-use Rattle.std.proofs.Common.{◌≡◌, refl, ℕ, ◌≤◌, ◌<◌, ◌^◌, List, ◌++◌, length, drop, arith, length-append, Result, Ok, Err, le-leb}
+use Rattle.std.proofs.Common.{◌≡◌, refl, ℕ, ◌≤◌, ◌<◌, ◌^◌, List, length, arith, length-append, Result, Ok, Err, le-leb}
 use Rattle.std.proofs.lemmas.Bool.{lt-leb}
 use Rattle.table.specs.declared.refusals.Reason.TheVariants.{ShortBuffer}
 use Rattle.table.specs.declared.refusals.Refusal.{Refusal}
 use Rattle.table.specs.Numbers.{number_of, untold}
 use Rattle.table.proofs.NumberLaws.{number-small}
-use Rattle.writing.specs.Text.{spelled}
 use Rattle.writing.proofs.Spelling.{spelled_short}
 use Rattle.writing.specs.Delivery.{Put, Delivered}
 use Rattle.writing.specs.Error.{error_text}

@@ -5,8 +5,8 @@ ghost use Rattle.writing.specs.declared.writer.TheConstants.{ROOM};
 ghost use Rattle.writing.specs.Delivery.{Put, Delivered};
 ghost use Rattle.writing.specs.Error.{error_text};
 
-use table::refusals::{Reason, Refusal};
 use crate::writer::Draft;
+use table::refusals::{Reason, Refusal};
 
 // A text at the start of a buffer: how long it is.
 pub fn put(text: &[u8], out: &mut [u8]) -> usize

@@ -5,8 +5,8 @@ ghost use Rattle.writing.specs.Text.{after_tab};
 ghost use Rattle.writing.specs.declared.writer.TheConstants.{ROOM};
 ghost use Rattle.writing.specs.Marks.{marks_text, bits_in, word_list, marks_fit};
 
-use cache::sets::CacheSet;
 use crate::writer::Draft;
+use cache::sets::CacheSet;
 
 // How many of so many cache sets have their bit in word k.
 #[tactic(auto, unfolding(crate::specs::Marks::bits_in))]

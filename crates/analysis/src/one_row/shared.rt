@@ -8,8 +8,8 @@ ghost use Rattle.analysis.specs.Shared.{shared_of, AtMost, is_ahead, ahead_of};
 
 use crate::costs::Hit;
 use cache::sets::CacheSet;
-use table::Table;
 use cache::units::Reloads;
+use table::Table;
 
 // Whether the first of two hits is the larger, or as large and of higher priority.
 fn is_ahead(a: Hit, b: Hit) -> bool

@@ -10,11 +10,10 @@ ghost use Rattle.writing.specs.declared.writer.TheConstants.{ROOM};
 ghost use Rattle.report.specs.Explanation.{needed_text, number_of, need_line, activations_in, name_at, victim_text, reason_line, reason_lines};
 ghost use Rattle.report.specs.Explained.{Timed, victim_in, Grounds};
 
-use analysis::blocked_row;
-use analysis::one_row;
 use analysis::costs::{Charge, Single};
-use search::demand::Response;
 use analysis::need::Need;
+use analysis::{blocked_row, one_row};
+use search::demand::Response;
 use table::Table;
 use table::tasks::{Name, Task};
 use writing::writer::{Draft, Text};

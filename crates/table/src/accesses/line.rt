@@ -4,13 +4,12 @@ ghost use Rattle.table.specs.Fields.{has_shape};
 ghost use Rattle.table.specs.Rows.{unless_fault};
 ghost use Rattle.table.specs.AccessLine.{AreFieldsOf, access_rows, access_said};
 
-use crate::fields;
-use crate::tasks;
 use crate::accesses::Access;
 use crate::refusals::Reason;
-use cache::sets::CacheSet;
 use crate::tasks::{Name, Task};
 use crate::text::Fields;
+use crate::{fields, tasks};
+use cache::sets::CacheSet;
 use cache::units::Ticks;
 
 // The fields of an access line, behind the first.

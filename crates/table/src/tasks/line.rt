@@ -5,11 +5,11 @@ ghost use Rattle.table.specs.Rows.{unless_fault};
 ghost use Rattle.table.specs.TaskLine.{AreFieldsOf, read_times, times_of, times_in_range, times_in_order, task_rows, task_said};
 
 use crate::fields;
+use crate::refusals::Reason;
 use crate::tasks::Task;
 use crate::tasks::name::{Name, is_known};
-use crate::refusals::Reason;
-use cache::sets::CacheSet;
 use crate::text::Fields;
+use cache::sets::CacheSet;
 use cache::units::Ticks;
 
 // The fields of a task line, behind the first.

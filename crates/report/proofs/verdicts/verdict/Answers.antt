@@ -1,6 +1,5 @@
 -- A verdict is asked of the rows one by one. Assumes nothing.
-use Rattle.std.proofs.Common.{◌≡◌, ◌∙◌, sym, ap, false, length, ◌≤◌, rules, arith}
-use Rattle.std.specs.List.{list_all}
+use Rattle.std.proofs.Common.{◌∙◌, sym, length, ◌≤◌, rules, arith}
 use Rattle.std.proofs.lemmas.List.Folds.{list_all_at}
 use Rattle.std.proofs.Math.Seq.{take_all}
 use Rattle.report.specs.Verdicts.{has_response}
