@@ -1,22 +1,10 @@
 -- What reads take off the bytes of a reader, and what then stands in a buffer.
-use Rattle.std.proofs.Common.{◌≡◌, ℕ, ◌+◌, ◌≤◌, List, ◌++◌, Some, None, IfSome, Result, Ok, Err, length, take, arith, sym, ap, subst, ◌∙◌, take_all, length-take, length-take-le}
+use Rattle.std.proofs.Common.{◌≡◌, ℕ, ◌+◌, ◌≤◌, List, ◌++◌, Some, None, IfSome, length, take, arith, sym, ap, subst, ◌∙◌, take_all, length-take, length-take-le}
 use Rattle.std.proofs.lemmas.List.{take-append-le}
 use Rattle.std.proofs.Math.Seq.{take-append_seam, take-append-add}
 use Rattle.std.specs.Prelude.{Option}
-use Rattle.std.specs.Io.KnownBytes.{Keeps, Consumes, ReadConsumes, IsAtEnd}
-use Rattle.std.proofs.KnownBytes.{Keeps-trans, Consumes-trans, Consumes-whole}
-
--- ---- reads that failed, and then one read
-
-kept-Consumes : (a b c : Option (List ℕ)) (bs : List ℕ) → Keeps a b → Consumes b c bs → Consumes a c bs
-kept-Consumes None b c bs k p = tt
-kept-Consumes (Some x) None c bs k p = absurd k
-kept-Consumes (Some x) (Some y) None bs k p = absurd p
-kept-Consumes (Some x) (Some y) (Some z) bs k p = sym k ∙ p
-
-pub kept-ReadConsumes : {E : Type 0} (a b c : Option (List ℕ)) (r : Result ℕ E) (buf : List ℕ) → Keeps a b → ReadConsumes b c r buf → ReadConsumes a c r buf
-kept-ReadConsumes a b c (Ok n) buf k p = (kept-Consumes a b c (take n buf) k p.0, p.1)
-kept-ReadConsumes a b c (Err e) buf k p = Keeps-trans a b c k p
+use Rattle.std.specs.Io.KnownBytes.{Consumes, IsAtEnd}
+use Rattle.std.proofs.KnownBytes.{Consumes-trans, Consumes-whole}
 
 -- ---- one read behind what came: xs is the buffer before, and ys the part that was read into
 

@@ -1,13 +1,12 @@
 -- When the text of a scaled table is accepted: just where no C is scaled beyond the longest, and then as that table. Assumes nothing.
-use Rattle.std.proofs.Common.{◌≡◌, ℕ, zero, suc, ◌+◌, ◌-◌, ◌≤◌, ◌<◌, Bool, true, false, not, cond, ◌&&◌, ◌||◌, List, [], ◌∷◌, ◌++◌, length, take, get_or, map, flat_map, replicate, refl, sym, ap, ap₂, ◌∙◌, arith, append-nil, subst, Some, Result, Ok, le-leb}
+use Rattle.std.proofs.Common.{◌≡◌, ℕ, zero, suc, ◌+◌, ◌-◌, ◌≤◌, ◌<◌, Bool, true, not, cond, ◌||◌, List, [], ◌∷◌, ◌++◌, length, take, get_or, map, flat_map, replicate, refl, sym, ap, ap₂, ◌∙◌, arith, subst, Some, Result, Ok, le-leb}
 use Rattle.std.proofs.Math.ListN.{length-map}
 use Rattle.std.proofs.lemmas.List.{map-append}
 use Rattle.std.proofs.lemmas.List.Elements.{All-append, All-replicate}
 use Rattle.std.specs.Prelude.{is_ok}
-use Rattle.std.specs.List.{All, list_any, position_or_len, join_with_byte}
-use Rattle.std.proofs.Math.Decide.{dec_lt}
+use Rattle.std.specs.List.{All}
 use Rattle.table.specs.Cut.{fields, lines}
-use Rattle.table.specs.Fields.{read_digits, is_name}
+use Rattle.table.specs.Fields.{read_digits}
 use Rattle.table.specs.declared.tasks.name.Name.{Name}
 use Rattle.table.specs.declared.tasks.Task.{Task}
 use Rattle.table.specs.declared.tasks.head.Head.{Head}
@@ -18,22 +17,21 @@ use Rattle.table.proofs.LineLaws.{both, ranges}
 use Rattle.table.specs.declared.accesses.Access.{Access}
 use Rattle.table.specs.Accesses.{empty_access}
 use Rattle.table.specs.declared.Table.{Table}
-use Rattle.table.specs.Tables.{tasks_of, accesses_of, at}
+use Rattle.table.specs.Tables.{at}
 use Rattle.table.specs.Accepted.{AcceptedTable}
 use Rattle.table.specs.Reading.{is_blocked, first_blocked, ended, read_text}
-use Rattle.table.proofs.AcceptedLaws.{accepted-table}
 use Rattle.writing.specs.Text.{spelled}
 use Rattle.writing.specs.Marks.{marks_text}
 use Rattle.table.specs.declared.refusals.Refusal.{Refusal}
-use Rattle.table_text.specs.TableText.{head_fields, task_fields, access_fields, lines_of, line_text, table_text}
+use Rattle.table_text.specs.TableText.{task_fields, access_fields, lines_of, line_text, table_text}
 use Rattle.table_text.specs.Readable.{Whole, Readable}
-use Rattle.table_text.specs.Tests.{is_next, are_next, is_entered, is_readable}
+use Rattle.table_text.specs.Tests.{is_next, are_next, is_readable}
 use Rattle.table_text.proofs.Numbers.{digits-read}
 use Rattle.table_text.proofs.Lines.{is-line, AreLines, are-lines-append, lines-written, fields-found}
 use Rattle.table_text.proofs.TaskLines.{filled-name, head-plain, next-holds, task-plain}
-use Rattle.table_text.proofs.Filled.{filled, filled-long, table_of, its-tasks, its-accesses}
+use Rattle.table_text.proofs.Filled.{filled, filled-long, table_of, its-tasks}
 use Rattle.table_text.proofs.Reading.{Passed, lines_so_far, its-lines, text-read}
-use Rattle.table_text.proofs.RoundTrip.{next-at, named, accesses-lines, lists-readable, readable-accepted, reads-back, read-then-written}
+use Rattle.table_text.proofs.RoundTrip.{next-at, named, accesses-lines, lists-readable, readable-accepted, reads-back}
 use Rattle.growth.specs.Scaling.{FitsBy, scaled_work, scaled_task, scaled_by, Scalable}
 use Rattle.growth.proofs.ScaledLaws.{unworked, scaled-place, work-some}
 

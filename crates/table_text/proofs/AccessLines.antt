@@ -1,11 +1,10 @@
 -- The line of an access: a line that says what is tested here is not refused and says the same again, and a line that is not refused is what is written of what it
 -- says, which passes the tests. Assumes nothing.
-use Rattle.std.proofs.Common.{◌≡◌, ℕ, ◌%◌, ◌≤◌, ◌<◌, Bool, true, false, not, ◌&&◌, List, [], ◌∷◌, ◌++◌, length, get_or, take, refl, sym, ap, ◌∙◌, arith, Some, Ok, ltb-true, leb-true, lt-ltb, le-leb, ltb, leb}
+use Rattle.std.proofs.Common.{◌≡◌, ℕ, ◌%◌, ◌≤◌, ◌<◌, true, false, ◌&&◌, List, [], ◌∷◌, length, get_or, refl, ap, ◌∙◌, arith, Some, Ok, ltb-true, leb-true, lt-ltb, le-leb, ltb, leb}
 use Rattle.std.proofs.lemmas.Slice.Eq.{bytes_eq-Decides}
 use Rattle.std.proofs.lemmas.List.Sums.{position_or_len_is, passes_at_first}
 use Rattle.std.specs.Prelude.{is_some, unwrap_or}
 use Rattle.std.specs.List.{position_or_len}
-use Rattle.std.specs.Str.{bytes_eq}
 use Rattle.std.proofs.lemmas.Bool.{not-false}
 use Rattle.table.specs.Cut.{fields, field}
 use Rattle.table.specs.Fields.{is_name, is_number, number, has_shape, is_within}
@@ -20,8 +19,7 @@ use Rattle.table.proofs.Names.{name-kept}
 use Rattle.table.proofs.LineLaws.{both, lies}
 use Rattle.table.specs.declared.accesses.Access.{Access}
 use Rattle.table.specs.AccessLine.{position_named, access_rows, access_said}
-use Rattle.writing.specs.Text.{spelled}
-use Rattle.writing.specs.Marks.{marks_text, marks_fit}
+use Rattle.writing.specs.Marks.{marks_fit}
 use Rattle.writing.proofs.Fields.{marks-read, read_fits, read-text}
 use Rattle.table_text.specs.TableText.{access_fields}
 use Rattle.table_text.specs.Tests.{is_entered}

@@ -1,5 +1,5 @@
 -- Tables of lists: the table of a head, of tasks and of accesses, whose other places are empty. Each table that is read is one. Assumes nothing.
-use Rattle.std.proofs.Common.{◌≡◌, ℕ, zero, suc, ◌+◌, ◌-◌, ◌≤◌, ◌<◌, Bool, true, ◌&&◌, List, [], ◌∷◌, ◌++◌, length, take, drop, set, replicate, refl, sym, ap, ap₂, ◌∙◌, arith, add-one, length-append, append_assoc}
+use Rattle.std.proofs.Common.{◌≡◌, ℕ, zero, suc, ◌+◌, ◌-◌, ◌≤◌, ◌<◌, Bool, true, List, [], ◌∷◌, ◌++◌, length, take, drop, set, replicate, refl, sym, ap, ap₂, ◌∙◌, arith, length-append}
 use Rattle.std.proofs.Math.Bool.{and-eq-true_iff}
 use Rattle.std.proofs.Math.Seq.{append_snoc, set-append_seam, take-append_seam, drop-append_seam, length-take-le}
 use Rattle.std.proofs.Math.ListN.{take-append-drop, length-drop, length-replicate}
@@ -11,8 +11,6 @@ use Rattle.table.specs.declared.accesses.Access.{Access}
 use Rattle.table.specs.Accesses.{empty_access}
 use Rattle.table.specs.declared.Table.{Table}
 use Rattle.table.specs.Tables.{tasks_of, accesses_of, new_table, with_task, with_access}
-use Rattle.table_text.specs.Readable.{Whole}
-use Rattle.table_text.specs.Tests.{head_of}
 
 -- ---- 32 places, of which the first hold a list and the others are empty
 

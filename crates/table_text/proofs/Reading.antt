@@ -1,5 +1,5 @@
 -- What a text that is accepted leaves in the table: its lists pass the tests, and its lines are those that are written of them. Assumes nothing.
-use Rattle.std.proofs.Common.{◌≡◌, ℕ, zero, suc, ◌+◌, ◌≤◌, ◌<◌, Bool, true, false, ◌&&◌, cond, List, [], ◌∷◌, ◌++◌, length, map, refl, sym, ap, ◌∙◌, arith, length-append, append-nil, append_assoc, Result, Ok, Err, leb-false, ltb-false}
+use Rattle.std.proofs.Common.{◌≡◌, ℕ, ◌+◌, ◌≤◌, ◌<◌, Bool, true, false, cond, List, [], ◌∷◌, ◌++◌, length, map, refl, sym, ap, ◌∙◌, arith, length-append, append-nil, append_assoc, Result, Ok, Err, leb-false, ltb-false}
 use Rattle.std.proofs.Math.Bool.{and-eq-true_iff}
 use Rattle.std.proofs.lemmas.Bool.{false≢true, not-false}
 use Rattle.std.proofs.lemmas.List.{map-append}
@@ -14,11 +14,9 @@ use Rattle.table.specs.Rows.{Conditions, unless_fault}
 use Rattle.table.proofs.RowLaws.{fine-any, fine-row}
 use Rattle.table.specs.declared.tasks.Task.{Task}
 use Rattle.table.specs.declared.tasks.head.Head.{Head}
-use Rattle.table.specs.Tasks.{empty_task}
 use Rattle.table.specs.HeadLine.{head_in_range, head_rows, head_said}
 use Rattle.table.specs.TaskLine.{task_rows, task_said}
 use Rattle.table.specs.declared.accesses.Access.{Access}
-use Rattle.table.specs.Accesses.{empty_access}
 use Rattle.table.specs.AccessLine.{access_rows, access_said}
 use Rattle.table.specs.declared.Table.{Table}
 use Rattle.table.specs.Tables.{tasks_of, new_table, with_task, with_access}

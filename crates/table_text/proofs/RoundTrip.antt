@@ -1,7 +1,6 @@
 -- Reading and writing go back and forth: a text that is accepted is its table's text, and the text of a table that passes the tests is accepted as that table.
 -- So the tests tell just which tables a text gives. Assumes nothing.
-use Rattle.std.proofs.Common.{◌≡◌, ℕ, zero, suc, ◌+◌, ◌-◌, ◌%◌, ◌≤◌, ◌<◌, Bool, true, false, ◌&&◌, ◌||◌, List, [], ◌∷◌, ◌++◌, length, take, drop, get_or, map, flat_map, refl, sym, ap, ◌∙◌, arith, length-append, append-nil, append_assoc, Result, Ok, Err, leb-true, le-leb, le-ltb}
-use Rattle.std.proofs.Math.Bool.{and-eq-true_iff}
+use Rattle.std.proofs.Common.{◌≡◌, ℕ, zero, suc, ◌+◌, ◌-◌, ◌%◌, ◌≤◌, ◌<◌, Bool, true, false, ◌||◌, List, [], ◌∷◌, ◌++◌, length, take, drop, get_or, map, flat_map, refl, sym, ap, ◌∙◌, arith, length-append, append-nil, append_assoc, Result, Ok, Err, leb-true, le-leb, le-ltb}
 use Rattle.std.proofs.Math.Seq.{length-take-le, get_or-take}
 use Rattle.std.proofs.lemmas.Bool.{false≢true, lt-leb}
 use Rattle.std.proofs.lemmas.List.{map-append}
@@ -16,15 +15,15 @@ use Rattle.table.proofs.RowLaws.{fine-any}
 use Rattle.table.specs.declared.tasks.Task.{Task}
 use Rattle.table.specs.declared.tasks.head.Head.{Head}
 use Rattle.table.specs.Tasks.{blank, empty_task}
-use Rattle.table.specs.Names.{has_name, knows}
+use Rattle.table.specs.Names.{has_name}
 use Rattle.table.specs.HeadLine.{head_in_range, head_rows, head_said}
 use Rattle.table.proofs.LineLaws.{both}
 use Rattle.table.specs.declared.accesses.Access.{Access}
 use Rattle.table.specs.Accesses.{empty_access}
 use Rattle.table.specs.declared.Table.{Table}
-use Rattle.table.specs.Tables.{tasks_of, accesses_of, new_table, with_task, with_access}
+use Rattle.table.specs.Tables.{tasks_of, accesses_of, new_table}
 use Rattle.table.specs.Accepted.{AcceptedTable}
-use Rattle.table.specs.Reading.{told, then_read, line_rows, with_line, ended, read_from, read_lines, read_text, is_ended, text_rows}
+use Rattle.table.specs.Reading.{told, then_read, line_rows, with_line, ended, read_from, read_lines, read_text}
 use Rattle.table.proofs.AcceptedLaws.{accepted-lines}
 use Rattle.table_text.specs.TableText.{head_fields, task_fields, access_fields, lines_of, line_text, table_text}
 use Rattle.table_text.proofs.Lengths.{table-short}
@@ -35,7 +34,7 @@ use Rattle.table_text.proofs.Places.{empty-vacant, vacant-empty, empty-unused, u
 use Rattle.table_text.proofs.TaskLines.{filled-name, few-sets, sets-by-four, head-plain, head-says, head-fine, NextHolds, next-holds, task-plain, task-says, task-fine}
 use Rattle.table_text.proofs.AccessLines.{EnteredHolds, entered-holds, Named, access-plain, access-says, access-fine}
 use Rattle.table_text.proofs.Filled.{table_of, its-tasks, its-accesses, task-more, access-more, empty-all, filled-up, past}
-use Rattle.table_text.proofs.Reading.{Passed, lines_so_far, its-lines, Read, text-read}
+use Rattle.table_text.proofs.Reading.{Passed, lines_so_far, its-lines, text-read}
 
 -- ---- tasks that pass the tests: each, and its name, which is that of no other
 

@@ -1,14 +1,12 @@
 -- Line 1 and the line of a task: a line that says what is tested here is not refused and says the same again, and a line that is not refused is what is written of
 -- what it says, which passes the tests. Assumes nothing.
-use Rattle.std.proofs.Common.{◌≡◌, ℕ, suc, ◌%◌, ◌≤◌, ◌<◌, Bool, true, false, not, ◌&&◌, List, [], ◌∷◌, ◌++◌, length, get_or, refl, sym, ap, ◌∙◌, arith, Option, Some, None, Ok, eqb-true, eqb}
-use Rattle.std.proofs.Math.Bool.{and-eq-true_iff}
+use Rattle.std.proofs.Common.{◌≡◌, ℕ, ◌%◌, ◌≤◌, ◌<◌, true, false, not, ◌&&◌, List, [], ◌∷◌, length, get_or, refl, ap, ◌∙◌, arith, Option, Some, None, Ok, eqb-true, eqb}
 use Rattle.std.proofs.lemmas.Bool.{false≢true, not-false, not-true}
 use Rattle.std.proofs.lemmas.Slice.Eq.{bytes_eq-Decides}
 use Rattle.std.specs.Prelude.{is_some, unwrap_or}
-use Rattle.std.specs.List.{join_with_byte}
 use Rattle.std.specs.Str.{bytes_eq}
 use Rattle.table.specs.Cut.{fields, field, field_count}
-use Rattle.table.specs.Fields.{is_letter, is_name, is_number, number, has_shape}
+use Rattle.table.specs.Fields.{is_letter, is_name, is_number, has_shape}
 use Rattle.cache.specs.declared.sets.CacheSet.{CacheSet}
 use Rattle.cache.specs.Field.{read_set}
 use Rattle.table.specs.Rows.{unless_fault}
@@ -22,8 +20,7 @@ use Rattle.table.specs.HeadLine.{head_in_range, head_rows, head_said}
 use Rattle.table.specs.TaskLine.{times_of, times_said, times_in_range, times_in_order, task_rows, task_said}
 use Rattle.table.proofs.Names.{name-kept}
 use Rattle.table.proofs.LineLaws.{both, lies, ranges, order}
-use Rattle.writing.specs.Text.{spelled}
-use Rattle.writing.specs.Marks.{marks_text, marks_fit}
+use Rattle.writing.specs.Marks.{marks_fit}
 use Rattle.writing.proofs.Fields.{marks-read, read_fits, read-text}
 use Rattle.table_text.specs.TableText.{head_fields, task_fields}
 use Rattle.table_text.specs.Tests.{is_next}

@@ -2,5 +2,5 @@
 use Rattle.std.proofs.Common.{sym}
 use Rattle.parts.proofs.bench_rewrite.Goals as goal
 
-pub rewrite-requires-in-Ok : goal.rewrite-requires-in-Ok
-rewrite-requires-in-Ok c = (c.args.text.now, sym c.in-Ok.ensures.read)
+pub rewrite-requires : goal.rewrite-requires
+rewrite-requires c = (c.args.text.now, sym c.in-Ok.ensures.read)

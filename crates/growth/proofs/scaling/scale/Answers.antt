@@ -1,6 +1,5 @@
 -- The next task is as it was, and then scaled too. Assumes nothing.
 use Rattle.std.proofs.Common.{ap, ◌∙◌, arith}
-use Rattle.table.specs.Tasks.{blank}
 use Rattle.growth.specs.Scaling.{scaled_by}
 use Rattle.growth.proofs.ScaledLaws.{next-small, next-scaled, first-all, with_tasks}
 use Rattle.growth.proofs.scaling.scale.Goals as goal
