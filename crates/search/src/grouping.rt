@@ -19,18 +19,11 @@ pub const BY_SHARE: usize = 8;
 pub const COUNTED: usize = 9;
 
 // The greatest common divisor, by Euclid; what it is has not to be known.
-fn greatest(a: u64, b: u64) -> u64
-    requires { 1 ≤ b }
+fn gcd(a: u64, b: u64) -> u64
+    requires { 1 ≤ a }
     ensures { 1 ≤ result }
 {
-    let mut rest = a;
-    let mut last = b;
-    while rest != 0 {
-        let next = last % rest;
-        last = rest;
-        rest = next;
-    }
-    last
+    if b == 0 { a } else { gcd(b, a % b) }
 }
 
 // The terms whose periods are within the longest round are taken, and the others counted.
@@ -85,7 +78,7 @@ fn joined(ticks: u64, period: u64) -> u64
     requires { (1 ≤ ticks) × (ticks ≤ 16384) × (1 ≤ period) × (period ≤ 250000000) }
     ensures { (1 ≤ result) × (result ≤ 16384) }
 {
-    let long = ticks * (period / greatest(ticks, period));
+    let long = ticks * (period / gcd(period, ticks));
     if long == 0 {
         return ticks;
     }
@@ -113,18 +106,16 @@ fn longer(terms: &[Term], classes: &[usize; 32], ticks: u64) -> u64
 }
 
 // A round made longer so, as often as it goes.
-fn grown(terms: &[Term], classes: &[usize; 32], period: u64) -> u64
-    requires { Handed 1 terms.now 0 × (length classes.now ≡ 32) × (1 ≤ period) × (period ≤ 16384) }
+fn grown(terms: &[Term], classes: &[usize; 32], ticks: u64) -> u64
+    requires { Handed 1 terms.now 0 × (length classes.now ≡ 32) × (1 ≤ ticks) × (ticks ≤ 16384) }
     ensures { (1 ≤ result) × (result ≤ 16384) }
 {
-    let mut ticks = period;
-    let mut next = longer(terms, classes, period);
-    while ticks < next {
-        ticks = next;
-        let more = longer(terms, classes, ticks);
-        next = more;
+    let long = longer(terms, classes, ticks);
+    if ticks < long {
+        grown(terms, classes, long)
+    } else {
+        ticks
     }
-    ticks
 }
 
 // Puts the terms into a round whose periods divide it, and which are in none yet.
@@ -147,8 +138,7 @@ pub fn choose(terms: &[Term], classes: &mut [usize; 32], ticks: &mut [u64; 8]) -
     ensures { Chosen (term_in terms.now) (length terms.now) result classes.new ticks.new }
 {
     set_apart(terms, classes);
-    let mut made = 0;
-    while made < ROUNDS {
+    for made in 0..ROUNDS {
         let period = heaviest(terms, classes);
         if period == 0 {
             return made;
@@ -156,7 +146,6 @@ pub fn choose(terms: &[Term], classes: &mut [usize; 32], ticks: &mut [u64; 8]) -
         let long = grown(terms, classes, period);
         join(terms, long, made, classes);
         ticks[made] = long;
-        made += 1;
     }
-    made
+    ROUNDS
 }

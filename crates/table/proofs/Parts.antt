@@ -1,6 +1,6 @@
 -- The part before the first c and the part after it, as a start and an end in the text.
 -- Assumes nothing.
-use Rattle.std.proofs.Common.{ℕ, suc, ◌+◌, ◌-◌, ◌<◌, ◌≤◌, zero-le, suc-le-suc, ◌≡◌, refl, sym, ap, ◌∙◌, Bool, true, false, cond, List, [], ◌∷◌, add-one, arith, eqb, length, take, drop, length-drop, drop_of_length-le}
+use Rattle.std.proofs.Common.{ℕ, suc, ◌+◌, ◌-◌, ◌≤◌, zero-le, suc-le-suc, ◌≡◌, refl, sym, ap, ◌∙◌, Bool, true, false, cond, List, [], ◌∷◌, add-one, arith, eqb, length, take, drop, length-drop, drop_of_length-le}
 use Rattle.std.proofs.Math.Nat.{sub-zero}
 use Rattle.std.proofs.Math.Seq.{take-length}
 use Rattle.table.specs.Cut.{up_to, after}
@@ -40,6 +40,3 @@ part-beyond c s e h = rw (← length-drop (e + 1) s, take-length, h, add-one) (a
 
 pub none-beyond : (c : ℕ) (s : List ℕ) (e : ℕ) → e ≡ length (up_to c s) → length s ≤ e → [] ≡ after c s
 none-beyond c s e h k = sym (drop_of_length-le s {i = suc (length (up_to c s))} (omega arith)) ∙ after-part c s
-
-pub after-shorter : (c : ℕ) (s : List ℕ) → 0 < length s → length (after c s) < length s
-after-shorter c s h = rw (← after-part c s, length-drop) (omega arith)

@@ -1,8 +1,9 @@
 -- What line a refusal of a text tells: one that a text of 16,384 bytes can have.
 -- Assumes nothing.
-use Rattle.std.proofs.Common.{◌≡◌, ℕ, suc, ◌+◌, ◌≤◌, Bool, true, false, not, cond, List, [], ◌∷◌, length, arith, refl, Result, Ok, Err, length-take, ltb-false, eqb}
+use Rattle.std.proofs.Common.{◌≡◌, ℕ, ◌+◌, ◌≤◌, Bool, true, false, not, cond, List, [], ◌∷◌, length, arith, refl, Result, Ok, Err, length-take, ltb-false}
 use Rattle.std.proofs.lemmas.List.Sums.{prefix_len-le-length}
-use Rattle.table.specs.Cut.{lead, lines}
+use Rattle.table.specs.Cut.{lines}
+use Rattle.table.proofs.Lines.{lines_long}
 use Rattle.table.specs.declared.refusals.Reason.{Reason}
 use Rattle.table.specs.declared.refusals.Refusal.{Refusal}
 use Rattle.table.specs.Rows.{Conditions, unless_fault}
@@ -67,19 +68,6 @@ lines-told [] most l h = omega arith
 lines-told (s ∷ ls) most l h =
     rows-told 1 most (head_rows s) (head_said s) (λ head. read_from 2 (new_table head) ls) (omega arith)
     (λ _. from_told ls 2 (new_table (head_said s)) most (omega arith) (omega arith))
-
-lead-long : (b : ℕ) (ls : List (List ℕ)) → length (lead b ls) ≤ suc (length ls)
-lead-long b [] = omega arith
-lead-long b (l ∷ ls) = omega arith
-
-lines_long : (s : List ℕ) → length (lines s) ≤ length s
-unfolding lines
-lines_long [] = omega arith
-lines_long (b ∷ s) = go (eqb b 10) (lines_long s)
-  where
-    go : (t : Bool) → length (lines s) ≤ length s → length (cond t ([] ∷ lines s) (lead b (lines s))) ≤ suc (length s)
-    go true h = omega arith
-    go false h = omega (arith, lead-long b (lines s))
 
 pub read-told : (text : List ℕ) → ToldBy 16385 (read_text text)
 unfolding read_text

@@ -1,7 +1,8 @@
 // The parts of a text: its lines, and the fields of a line, as specs/Cut.antt has them.
 
 ghost use Rattle.std.specs.Prelude.{◌≡◌, ◌∷◌, [], ◌==◌, ◌↔◌, IsTrue, IfNone, IfSome, OnSome, position};
-ghost use Rattle.table.specs.Cut.{up_to, after, field, fields};
+ghost use Rattle.std.specs.Iterator.{YieldsFirstRef, item_count};
+ghost use Rattle.table.specs.Cut.{up_to, after, lines, field, fields};
 
 use std::marker::Model;
 
@@ -33,11 +34,10 @@ fn find_tab(s: &[u8]) -> Option<usize>
         }
         i += 4;
     }
-    while i < n {
-        if s[i] == b'\t' {
-            return Some(i);
+    for k in i..n {
+        if s[k] == b'\t' {
+            return Some(k);
         }
-        i += 1;
     }
     None
 }
@@ -50,6 +50,46 @@ pub fn next_line(text: &[u8]) -> (&[u8], &[u8])
     match find(text, b'\n') {
         Some(end) => (&text[..end], &text[end + 1..]),
         None => (text, &[]),
+    }
+}
+
+// The lines of a text that are still to come.
+#[derive(Drop)]
+pub struct Lines<'a> {
+    rest: &'a [u8],
+}
+
+impl<'a> Model for Lines<'a> {
+    ghost use Rattle.std.specs.Prelude.{ℕ, List};
+    ghost use Rattle.table.specs.Cut.{lines};
+
+    ghost Value = { List (List ℕ) };
+
+    ghost view = { λ l. lines l.rest.now };
+}
+
+impl<'a> Lines<'a> {
+    pub fn of(text: &'a [u8]) -> Lines<'a>
+        ensures { result ≡ lines text.now }
+    {
+        Lines { rest: text }
+    }
+}
+
+impl<'a> Iterator for Lines<'a> {
+    type Item = &'a [u8];
+
+    ghost next_gives = { YieldsFirstRef (λ lines. lines) };
+
+    ghost remaining = { item_count (λ lines. lines) };
+
+    fn next(&mut self) -> Option<&'a [u8]> {
+        if self.rest.is_empty() {
+            return None;
+        }
+        let (line, below) = next_line(self.rest);
+        self.rest = below;
+        Some(line)
     }
 }
 
@@ -86,12 +126,21 @@ impl<'a> Fields<'a> {
         Fields { rest: Some(line) }
     }
 
-    // The next field, which is that part of the line.
-    pub fn next(&mut self) -> Option<&'a [u8]>
-        ensures none { IfNone result (self.old ≡ []) }
-        ensures after_none { IfNone result (self.new ≡ []) }
-        ensures some { IfSome result (λ field. self.old ≡ field.now ∷ self.new) }
+    pub fn is_done(&self) -> bool
+        ensures { IsTrue result ↔ (self.now ≡ []) }
     {
+        self.rest.is_none()
+    }
+}
+
+impl<'a> Iterator for Fields<'a> {
+    type Item = &'a [u8];
+
+    ghost next_gives = { YieldsFirstRef (λ fields. fields) };
+
+    ghost remaining = { item_count (λ fields. fields) };
+
+    fn next(&mut self) -> Option<&'a [u8]> {
         let line = self.rest?;
         match find_tab(line) {
             Some(end) => {
@@ -103,11 +152,5 @@ impl<'a> Fields<'a> {
                 Some(line)
             }
         }
-    }
-
-    pub fn is_done(&self) -> bool
-        ensures { IsTrue result ↔ (self.now ≡ []) }
-    {
-        self.rest.is_none()
     }
 }

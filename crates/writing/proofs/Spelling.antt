@@ -70,14 +70,6 @@ spelled_digits n = by_digits (λ m. decimal_digits (length (spelled m)) m ≡ sp
     high : (m : ℕ) → 10 ≤ m → decimal_digits (length (spelled (m / 10))) (m / 10) ≡ spelled (m / 10) → decimal_digits (length (spelled m)) m ≡ spelled m
     high m h e = rw (spelled_high m h, length-append, add-one, e) refl
 
--- a number has a digit
-pub spelled_some : (n : ℕ) → 1 ≤ length (spelled n)
-spelled_some n =
-    elim (dec_lt n 10) [
-      | yes low ↦ rw (spelled_low n low) (omega arith)
-      | no high ↦ rw (spelled_high n (omega arith), length-append) (omega arith)
-    ]
-
 pub decimal_more : (xs : List ℕ) (k n : ℕ) → k < length xs → decimal_digits k (n / 10) ++ drop k (set xs k (digit_byte (n % 10))) ≡ decimal_digits (k + 1) n ++ drop (k + 1) xs
 unfolding decimal_digits
 decimal_more xs k n h = rw (drop-set xs k (digit_byte (n % 10)) h, add-one k) (sym (append_assoc (decimal_digits k (n / 10)) (digit_byte (n % 10) ∷ []) (drop (suc k) xs)))

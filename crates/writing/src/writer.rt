@@ -112,13 +112,7 @@ impl Draft {
 fn digits_in(n: u64) -> usize
     ensures { result ≡ length (spelled n) }
 {
-    let mut digits = 1;
-    let mut left = n;
-    while left >= 10 {
-        left /= 10;
-        digits += 1;
-    }
-    digits
+    if n < 10 { 1 } else { 1 + digits_in(n / 10) }
 }
 
 // The decimal digits of a number, where there is a place for each. The last is filled first.

@@ -34,11 +34,11 @@ pub loop-i-preserved : goal.loop-i-preserved
 loop-i-preserved c =
     step (three c.loop-i.invariant (omega arith) c.if-s-i-eq9.false c.if-s-i-eq9-2.false c.if-s-i-eq9-3.false) (omega arith) (omega arith) c.if-s-i-eq9-4.false
 
-pub returns-then-s-i-eq9-5 : goal.returns-then-s-i-eq9-5
-returns-then-s-i-eq9-5 c = grind (arith, stop)
+pub returns-then-s-k-eq9 : goal.returns-then-s-k-eq9
+returns-then-s-k-eq9 c = grind (arith, stop)
 
-pub loop-i-2-preserved : goal.loop-i-2-preserved
-loop-i-2-preserved c = grind (arith, step)
+pub loop-k-preserved : goal.loop-k-preserved
+loop-k-preserved c = grind (arith, step)
 
 pub returns : goal.returns
 returns c = grind (arith, end)
