@@ -1,5 +1,5 @@
 #!/bin/sh
-# static.sh CRATE [NAME]: proves a static library of crates.txt (prove.sh), builds it, and puts it into target/staticlib, as libNAME.a (libCRATE.a where no NAME is given).
+# static.sh CRATE [NAME]: proves what a static library of crates.txt needs (prove.sh), proves and builds it, and puts it into target/staticlib, as libNAME.a (libCRATE.a where no NAME is given).
 set -eu
 root=$(cd "$(dirname "$0")/.." && pwd -P)
 crate=$1

@@ -1,9 +1,9 @@
 -- How a need is found, and what it says of the response. Assumes nothing.
-use Rattle.std.proofs.Common.{ℕ, ◌+◌, max, ◌≤◌, ◌<◌, arith, ◌≡◌, refl, sym, ap, ap₂, ◌∙◌, Bool, true, false, cond, List, [], ◌∷◌, ◌++◌, map, append-nil, ltb, leb, length, get_or, take, take-suc, add-one, le-leb, ltb-true, ltb-false}
+use Rattle.std.proofs.Common.{ℕ, ◌+◌, max, ◌≤◌, ◌<◌, arith, ◌≡◌, refl, sym, ap, ap₂, ◌∙◌, Bool, true, false, cond, List, [], ◌∷◌, ◌++◌, map, append-nil, ltb, leb, length, get_or, take, take-suc, add-one, le-leb, ltb-true, ltb-false, fold}
 use Rattle.std.proofs.Math.Decide.{dec_le}
 use Rattle.std.proofs.lemmas.Bool.{lt-leb}
 use Rattle.std.proofs.lemmas.List.{map-append}
-use mathlib.Core.List.{foldl, foldl-append}
+use Rattle.std.proofs.lemmas.List.Sums.{fold-append}
 use Rattle.std.specs.Prelude.{Option, Some, None}
 use Rattle.cache.specs.declared.units.Ticks.{Ticks}
 use Rattle.search.specs.declared.demand.Response.{Response}
@@ -58,8 +58,8 @@ pub largest-next : (W : Access → Need) (l : List Access) (a : Access) → Some
 largest-next W [] a = ap Some (sym (largest-one W a))
 largest-next W (b ∷ l) a =
     ap Some (
-    sym (foldl-append larger_need (W b) (map W (b ∷ l)) (W a ∷ []))
-    ∙ ap (λ (ns : List Need). foldl larger_need (W b) ns) (sym (map-append W (b ∷ l) (a ∷ [])))
+    sym (fold-append larger_need (W b) (map W (b ∷ l)) (W a ∷ []))
+    ∙ ap (λ (ns : List Need). fold larger_need (W b) ns) (sym (map-append W (b ∷ l) (a ∷ [])))
     )
 
 -- what was found over all that may block the task
@@ -112,7 +112,7 @@ largest-by P W (a ∷ l) h p = go l (larger_need (W a) (W a)) (either (W a) (W a
         pick true = r
         pick false = q
 
-    go : (r : List Access) (z : Need) → P z → Every (λ b. P (W b)) r → P (foldl larger_need z (map W r))
+    go : (r : List Access) (z : Need) → P z → Every (λ b. P (W b)) r → P (fold larger_need z (map W r))
     go [] z q e = q
     go (b ∷ r) z q e = go r (larger_need z (W b)) (either z (W b) q e.0) e.1
 
@@ -141,15 +141,15 @@ largest-time : (W : Access → Need) (l : List Access) → 1 ≤ length l → (l
 largest-time W [] h = absurd (omega arith)
 largest-time W (a ∷ l) h =
     go l (larger_need (W a) (W a))
-    ∙ ap (λ (r : Response). foldl later r (map (λ a. (W a).time) l)) (larger-time (W a) (W a) ∙ later-self (W a).time ∙ sym (first (W a).time))
+    ∙ ap (λ (r : Response). fold later r (map (λ a. (W a).time) l)) (larger-time (W a) (W a) ∙ later-self (W a).time ∙ sym (first (W a).time))
   where
     first : (r : Response) → later (Within (record { 0 = 0 })) r ≡ r
     first (Within x) = ap (λ (n : ℕ). Within (record { 0 = n })) (omega arith)
     first Unschedulable = refl
 
-    go : (r : List Access) (z : Need) → (foldl larger_need z (map W r)).time ≡ foldl later z.time (map (λ a. (W a).time) r)
+    go : (r : List Access) (z : Need) → (fold larger_need z (map W r)).time ≡ fold later z.time (map (λ a. (W a).time) r)
     go [] z = refl
-    go (b ∷ r) z = go r (larger_need z (W b)) ∙ ap (λ (t : Response). foldl later t (map (λ a. (W a).time) r)) (larger-time z (W b))
+    go (b ∷ r) z = go r (larger_need z (W b)) ∙ ap (λ (t : Response). fold later t (map (λ a. (W a).time) r)) (larger-time z (W b))
 
 -- ---- a response is the need, where that is within the limit
 

@@ -1,7 +1,7 @@
 -- What is gathered over the tasks that an activation can affect.
 use Rattle.std.specs.Prelude.{ℕ, ◌+◌, max, ◌≤◌, ◌<◌, ◌≡◌, List, if◌then◌else◌, nat_lt, slice_index}
 use Rattle.cache.specs.Sets.{Set, ∅, ◌∪◌}
-use Rattle.search.specs.Positions.{between, fold}
+use Rattle.search.specs.Positions.{between, fold_by}
 use Rattle.analysis.specs.declared.costs.Hit.{Hit}
 
 -- the positions k with j < k ≤ i: whom an activation of j can affect while i is pending
@@ -9,11 +9,11 @@ abbrev pub aff : ℕ → ℕ → List ℕ
 aff i j = between (j + 1) (i + 1)
 
 abbrev pub union_of : (ℕ → Set) → List ℕ → Set
-union_of F ks = fold ◌∪◌ ∅ F ks
+union_of F ks = fold_by ◌∪◌ ∅ F ks
 
 -- the largest value alone: the count of the pair below (`largest-count` in proofs/HitLaws.antt)
 abbrev pub largest_of : (ℕ → ℕ) → List ℕ → ℕ
-largest_of F ks = fold max 0 F ks
+largest_of F ks = fold_by max 0 F ks
 
 -- ---- the largest value, and whose it is
 
@@ -27,7 +27,7 @@ larger_of a b = if nat_lt a.reloads.0 b.reloads.0 then b else a
 
 -- the largest value with the first position that has it, begun with 0 at p: p is the position where all values are 0
 abbrev pub largest_from : ℕ → (ℕ → ℕ) → List ℕ → Hit
-largest_from p F ks = fold larger_of (hit 0 p) (λ k. hit (F k) k) ks
+largest_from p F ks = fold_by larger_of (hit 0 p) (λ k. hit (F k) k) ks
 
 -- the largest value over the positions, with the first of them that has it (0 at 0 where there are none, which aff i j never is for j < i)
 abbrev pub largest_at : (ℕ → ℕ) → List ℕ → Hit

@@ -1,6 +1,5 @@
 -- What a task needs, whatever its limit is, the method under which that is explained, and what blocks the task then.
-use Rattle.std.specs.Prelude.{ℕ, Bool, true, false, Option, Some, None, List, map, if◌then◌else◌, nat_lt, slice_index_or}
-use mathlib.Core.List.{foldl}
+use Rattle.std.specs.Prelude.{ℕ, Bool, true, false, Option, Some, None, List, map, if◌then◌else◌, nat_lt, slice_index_or, fold}
 use Rattle.search.specs.declared.demand.Response.{Response}
 use Rattle.search.specs.declared.demand.Response.TheVariants.{Within, Unschedulable}
 use Rattle.table.specs.declared.accesses.Access.{Access}
@@ -34,7 +33,7 @@ larger_of_some (Some so_far) need = larger_need so_far need
 
 -- the largest over these accesses, where W has that of each, and the first of them where they are equal
 abbrev pub largest_need : (Access → Need) → List Access → Need
-largest_need W blockers = foldl larger_need (W (slice_index_or blockers 0 empty_access)) (map W blockers)
+largest_need W blockers = fold larger_need (W (slice_index_or blockers 0 empty_access)) (map W blockers)
 
 -- the methods that count: while an access blocks, the smallest R up to 250,000,000 that equals its demand, whatever D - J is, and where there is none the need is
 -- beyond that; of these the largest over all that may block the task

@@ -13,7 +13,7 @@ use Rattle.table.specs.Reading.{ended, read_from, read_lines, read_text}
 use Rattle.table.specs.Tables.{at}
 use Rattle.search.specs.Demand.{demand_of}
 use Rattle.search.specs.Least.{first_of, least_of}
-use Rattle.search.specs.Positions.{run, fold}
+use Rattle.search.specs.Positions.{run, fold_by}
 use Rattle.analysis.specs.Costs.{reloads_with}
 use Rattle.analysis.specs.Analysis.{answer_of, response_of}
 use Rattle.writing.specs.Text.{digits_of, spelled}
@@ -24,5 +24,5 @@ use Rattle.laws.specs.Lines.{as_given, report_as_given, changed_round, report_ch
 
 -- as given b has the response 5 and a has 2; changed round b has 3 and a has 5
 pub lines-in-order : (printed as_given ≡ report_as_given) × (printed changed_round ≡ report_changed_round)
-unfolding printed up_to lines read_digits read_number has_shape is_name hex_digit read_hex read_set ∅ ◌∪◌ ◌∩◌ size_below size number_of members words_of unless_fault head_in_range times_in_range times_in_order task_said task_rows ended read_from read_lines read_text at demand_of first_of least_of run fold reloads_with answer_of response_of digits_of spelled response_line verdict_line report_of
+unfolding printed up_to lines read_digits read_number has_shape is_name hex_digit read_hex read_set ∅ ◌∪◌ ◌∩◌ size_below size number_of members words_of unless_fault head_in_range times_in_range times_in_order task_said task_rows ended read_from read_lines read_text at demand_of first_of least_of run fold_by reloads_with answer_of response_of digits_of spelled response_line verdict_line report_of
 lines-in-order = (refl, refl)

@@ -5,7 +5,7 @@ use Rattle.std.proofs.Math.Decide.{dec_lt}
 use Rattle.search.specs.declared.demand.Response.{Response}
 use Rattle.search.specs.declared.demand.Response.TheVariants.{Within, Unschedulable}
 use Rattle.search.specs.declared.demand.Term.{Term}
-use Rattle.search.specs.Positions.{hp, fold}
+use Rattle.search.specs.Positions.{hp, fold_by}
 use Rattle.search.specs.Demand.{work_of}
 use Rattle.search.specs.Least.{NoLater}
 use Rattle.search.proofs.PositionLaws.{run_long}
@@ -46,13 +46,13 @@ times-at [] i d h = absurd (omega arith)
 times-at (k ∷ ks) zero d h = rw (eq-eqb k k refl) (omega arith)
 times-at (k ∷ ks) (suc i) d h = omega (arith, times-at ks i d (omega arith))
 
-fold-ones : (z : ℕ) (ks : List ℕ) → fold ◌+◌ z (λ _. 1) ks ≡ z + length ks
-unfolding fold
+fold-ones : (z : ℕ) (ks : List ℕ) → fold_by ◌+◌ z (λ _. 1) ks ≡ z + length ks
+unfolding fold_by
 fold-ones z [] = omega arith
 fold-ones z (k ∷ ks) = omega (arith, fold-ones (z + 1) ks)
 
-fold-last : (z : ℕ) (F : ℕ → ℕ) (ks : List ℕ) (k : ℕ) → fold ◌+◌ z F (ks ++ k ∷ []) ≡ fold ◌+◌ z F ks + F k
-unfolding fold
+fold-last : (z : ℕ) (F : ℕ → ℕ) (ks : List ℕ) (k : ℕ) → fold_by ◌+◌ z F (ks ++ k ∷ []) ≡ fold_by ◌+◌ z F ks + F k
+unfolding fold_by
 fold-last z F [] k = refl
 fold-last z F (l ∷ ks) k = fold-last (z + F l) F ks k
 
@@ -79,4 +79,4 @@ module _ {n : ℕ} {ks : List ℕ} (once : EachOnce 0 n ks) where
 pub demand-over-next : (own : ℕ) (terms : ℕ → Term) (ks : List ℕ) (r k : ℕ) → k < length ks
     → demand_over own terms (take (k + 1) ks) r ≡ demand_over own terms (take k ks) r + work_of r (terms (get_or ks k 0))
 demand-over-next own terms ks r k h =
-    ap (fold ◌+◌ own (λ j. work_of r (terms j))) (take_more ks k 0 h) ∙ fold-last own (λ j. work_of r (terms j)) (take k ks) (get_or ks k 0)
+    ap (fold_by ◌+◌ own (λ j. work_of r (terms j))) (take_more ks k 0 h) ∙ fold-last own (λ j. work_of r (terms j)) (take k ks) (get_or ks k 0)

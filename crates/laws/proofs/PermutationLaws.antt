@@ -6,7 +6,7 @@ use Rattle.std.proofs.Math.Logic.{∥∥₁_elim}
 use Rattle.std.proofs.Math.Nat.{ℕ_set}
 use mathlib.Core.List.Permᴰ
 use mathlib.Core.List.{Perm, Permᴰ}
-use Rattle.search.specs.Positions.{run, between, fold}
+use Rattle.search.specs.Positions.{run, between, fold_by}
 use Rattle.laws.specs.Permutations.{times_in, Permutation, EachOnce, Unordered}
 
 -- ---- the first of those that are equal to x, taken out
@@ -116,13 +116,13 @@ module _ {B : Type 0} {op : B → B → B} (free : Unordered op) where
   exchanged : (z a b : B) → op (op z a) b ≡ op (op z b) a
   exchanged z a b = free.assoc z a b ∙ ap (op z) (free.comm a b) ∙ sym (free.assoc z b a)
 
-  fold-kept : (z : B) (F : ℕ → B) {ks ls : List ℕ} → Permᴰ ks ls → fold op z F ks ≡ fold op z F ls
-  unfolding fold
+  fold-kept : (z : B) (F : ℕ → B) {ks ls : List ℕ} → Permᴰ ks ls → fold_by op z F ks ≡ fold_by op z F ls
+  unfolding fold_by
   fold-kept z F Permᴰ.nil = refl
-  fold-kept z F (Permᴰ.cons {a = a} {l₂ = l₂} e d) = fold-kept (op z (F a)) F d ∙ ap (λ (k : ℕ). fold op (op z (F k)) F l₂) e
+  fold-kept z F (Permᴰ.cons {a = a} {l₂ = l₂} e d) = fold-kept (op z (F a)) F d ∙ ap (λ (k : ℕ). fold_by op (op z (F k)) F l₂) e
   fold-kept z F (Permᴰ.swap {a = a} {b = b} {l = l} e f) =
-      ap (λ (x : B). fold op x F l) (exchanged z (F a) (F b)) ∙ ap₂ (λ (k m : ℕ). fold op (op (op z (F k)) (F m)) F l) f e
+      ap (λ (x : B). fold_by op x F l) (exchanged z (F a) (F b)) ∙ ap₂ (λ (k m : ℕ). fold_by op (op (op z (F k)) (F m)) F l) f e
   fold-kept z F (Permᴰ.trans d e) = fold-kept z F d ∙ fold-kept z F e
 
-  pub fold-any-order : (z : B) (F : ℕ → B) (ks ls : List ℕ) → Permutation ks ls → fold op z F ks ≡ fold op z F ls
+  pub fold-any-order : (z : B) (F : ℕ → B) (ks ls : List ℕ) → Permutation ks ls → fold_by op z F ks ≡ fold_by op z F ls
   fold-any-order z F ks ls p = fold-kept z F (steps ks ls p)

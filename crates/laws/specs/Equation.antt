@@ -6,7 +6,7 @@ use Rattle.table.specs.declared.accesses.Access.{Access}
 use Rattle.table.specs.Accesses.{added_by}
 use Rattle.table.specs.declared.Table.{Table}
 use Rattle.table.specs.Tables.{at}
-use Rattle.search.specs.Positions.{hp, fold}
+use Rattle.search.specs.Positions.{hp, fold_by}
 use Rattle.search.specs.declared.demand.Term.{Term}
 use Rattle.search.specs.Demand.{work_of}
 use Rattle.search.specs.declared.demand.Response.{Response}
@@ -22,7 +22,7 @@ use Rattle.laws.specs.Permutations.{Permutation}
 
 -- the demand at r, with the terms added in the order of a list
 abbrev pub demand_over : ℕ → (ℕ → Term) → List ℕ → ℕ → ℕ
-demand_over own terms ks r = fold ◌+◌ own (λ j. work_of r (terms j)) ks
+demand_over own terms ks r = fold_by ◌+◌ own (λ j. work_of r (terms j)) ks
 
 -- g(i, j) under method m with X as one member more of aff(i, j), gathered over two lists: those affected, and j with those above it
 abbrev pub reloads_over : (ℕ → Set) → (ℕ → Set) → Set → Single → ℕ → List ℕ → List ℕ → ℕ

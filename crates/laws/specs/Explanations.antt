@@ -2,7 +2,7 @@
 use Rattle.std.specs.Prelude.{ℕ, ◌+◌, ◌*◌, ◌≤◌, ◌≡◌}
 use Rattle.cache.specs.declared.units.Ticks.{Ticks}
 use Rattle.search.specs.declared.demand.Response.TheVariants.{Within}
-use Rattle.search.specs.Positions.{hp, fold}
+use Rattle.search.specs.Positions.{hp, fold_by}
 use Rattle.table.specs.Tasks.{limit_of}
 use Rattle.table.specs.declared.Table.{Table}
 use Rattle.table.specs.Tables.{at}
@@ -22,7 +22,7 @@ adds_at table need i r j =
 
 -- C of the task at i, how long it is blocked, and what the lines of the tasks above it add
 abbrev pub sum_of : Table → Need → ℕ → ℕ → ℕ
-sum_of table need i r = fold ◌+◌ ((at table i).work.0 + need.blocker.lasts.0) (adds_at table need i r) (hp i)
+sum_of table need i r = fold_by ◌+◌ ((at table i).work.0 + need.blocker.lasts.0) (adds_at table need i r) (hp i)
 
 -- the need; and where it is not beyond, the total is this sum, and the sum is the need
 pub record AddsUp (table : Table) (m : Method) (i : ℕ) (r : Sum) : Type 0 where

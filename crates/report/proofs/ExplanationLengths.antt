@@ -4,7 +4,7 @@ use Rattle.std.proofs.Math.Decide.{dec_lt}
 use Rattle.std.specs.Prelude.{List, [], ◌++◌, flat_map}
 use Rattle.search.specs.declared.demand.Response.{Response}
 use Rattle.search.specs.declared.demand.Response.TheVariants.{Within, Unschedulable}
-use Rattle.search.specs.Positions.{run, hp, fold}
+use Rattle.search.specs.Positions.{run, hp, fold_by}
 use Rattle.search.proofs.PositionLaws.{fold-none, fold_next}
 use Rattle.search.proofs.DemandLaws.{ceil-most, sum-le}
 use Rattle.table.specs.declared.tasks.Task.{Task}
@@ -117,7 +117,7 @@ module _ (table : Table) (accepted : AcceptedTable table) (i : ℕ) (held : i < 
     lines n = flat_map (λ j. reason_line (name_at table) R (at table j) (charge_under table a m i j)) (hp n)
 
     abbrev activated : ℕ → ℕ → ℕ
-    activated own n = fold ◌+◌ own (λ j. activations_in R (at table j)) (hp n)
+    activated own n = fold_by ◌+◌ own (λ j. activations_in R (at table j)) (hp n)
 
     lines_next : (n : ℕ) → length (lines (n + 1)) ≡ length (lines n) + length (reason_line (name_at table) R (at table n) (charge_under table a m i n))
     lines_next n =
@@ -133,7 +133,7 @@ module _ (table : Table) (accepted : AcceptedTable table) (i : ℕ) (held : i < 
         omega (arith, rw (add-one n) at (lines_next n), rw (add-one n) at (activated-next own n), lines-cost own n (omega arith), line-cost n (omega arith))
 
     -- an activation asks for a tick at least, so there are no more of them than what they add
-    activated-most : (own : ℕ) → activated own i ≤ fold ◌+◌ own (adds_at table a m i R) (hp i)
+    activated-most : (own : ℕ) → activated own i ≤ fold_by ◌+◌ own (adds_at table a m i R) (hp i)
     activated-most own =
         sum-le own (λ j. activations_in R (at table j)) (adds_at table a m i R) i
         (λ j l. omega (arith, mul-le-mul_left (activations_in R (at table j)) (work j l)))

@@ -4,7 +4,7 @@ use Rattle.std.proofs.Common.{ℕ, ◌+◌, ◌*◌, ◌≤◌, ◌<◌, arith, 
 use Rattle.cache.specs.declared.units.Ticks.{Ticks}
 use Rattle.cache.specs.Sets.{Set, ◌∩◌, size}
 use Rattle.search.specs.declared.demand.Response.TheVariants.{Within}
-use Rattle.search.specs.Positions.{hp, fold}
+use Rattle.search.specs.Positions.{hp, fold_by}
 use Rattle.search.specs.Demand.{demand_of}
 use Rattle.search.proofs.LeastLaws.{answer-reached}
 use Rattle.table.specs.declared.accesses.Access.{Access}
@@ -32,7 +32,7 @@ adds_at table a m i R j = activations_in R (at table j) * ((at table j).work.0 +
 
 -- C, how long the task is blocked, and what the line of each task above adds, are what is needed, whichever of the six methods is explained
 pub explanation-adds-up : (table : Table) → AcceptedTable table → (i : ℕ) → i < table.count → (m : Method) → (R : Ticks) → (need_of table m i).time ≡ Within R
-    → fold ◌+◌ ((at table i).work.0 + (need_of table m i).blocker.lasts.0) (adds_at table (need_of table m i).blocker (need_of table m i).method i R.0) (hp i) ≡ R.0
+    → fold_by ◌+◌ ((at table i).work.0 + (need_of table m i).blocker.lasts.0) (adds_at table (need_of table m i).blocker (need_of table m i).method i R.0) (hp i) ≡ R.0
 unfolding demand_of reloads_with
 explanation-adds-up table accepted i held m R e =
     sym (answer-reached _ 250000000 R (sym e ∙ (needed table accepted i held m).time-is)).2

@@ -4,14 +4,14 @@ use Rattle.std.specs.List.{list_all}
 use Rattle.std.proofs.lemmas.List.Folds.{list_all_more}
 use Rattle.std.proofs.Math.Seq.{take_all}
 use Rattle.search.specs.declared.demand.Row.{Row}
-use Rattle.search.specs.Positions.{run, fold}
+use Rattle.search.specs.Positions.{run, fold_by}
 use Rattle.search.proofs.PositionLaws.{fold_next}
 use Rattle.report.specs.Verdicts.{has_response, verdict}
 use Rattle.report.specs.VerdictRows.{blank_row, answer_under, answers_in}
 
 module _ (rows : List Row) (m : ℕ) where
   up_to_row : (n : ℕ) → n ≤ length rows → list_all (λ row. has_response (answer_under row m)) (take n rows) ≡ verdict n (answers_in rows m)
-  unfolding run fold
+  unfolding run fold_by
   up_to_row zero h = refl
   up_to_row (suc n) h =
       rw (← add-one n)

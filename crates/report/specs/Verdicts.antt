@@ -3,7 +3,7 @@
 use Rattle.std.specs.Prelude.{ℕ, Bool, true, false, ◌&&◌, List, [], ◌∷◌, map}
 use Rattle.search.specs.declared.demand.Response.{Response}
 use Rattle.search.specs.declared.demand.Response.TheVariants.{Within, Unschedulable}
-use Rattle.search.specs.Positions.{between, fold, methods}
+use Rattle.search.specs.Positions.{between, fold_by, methods}
 use Rattle.writing.specs.Text.{line_of, yes_no}
 
 abbrev pub has_response : Response → Bool
@@ -12,7 +12,7 @@ has_response Unschedulable = false
 
 -- whether every task has a response under a method
 abbrev pub verdict : ℕ → (ℕ → Response) → Bool
-verdict count answers = fold ◌&&◌ true (λ i. has_response (answers i)) (between 0 count)
+verdict count answers = fold_by ◌&&◌ true (λ i. has_response (answers i)) (between 0 count)
 
 -- the last line: `V`, and the verdict of each method
 unfoldable pub verdict_line : ℕ → (ℕ → ℕ → Response) → List ℕ

@@ -2,7 +2,7 @@
 use Rattle.std.proofs.Common.{ℕ, zero, suc, ◌+◌, ◌-◌, ◌*◌, ◌≤◌, ◌<◌, zero-le, div-lt_iff_lt-mul, le_antisymm, lt_of_not-le, mul-le-mul, mul-le-mul_left, add-one, arith, ◌≡◌, refl, sym, ap, ◌↔◌, List}
 use Rattle.std.proofs.Math.Path.{fun_ext}
 use Rattle.search.specs.declared.demand.Response.TheVariants.{Unschedulable}
-use Rattle.search.specs.Positions.{hp, fold}
+use Rattle.search.specs.Positions.{hp, fold_by}
 use Rattle.search.specs.declared.demand.Term.{Term}
 use Rattle.search.specs.Demand.{ceil, activations_of, work_of, demand_of, NoMore}
 use Rattle.search.specs.Terms.{InRange, Handed}
@@ -103,7 +103,7 @@ sum-grows : Grows ◌+◌ ◌≤◌
 sum-grows = record { same = λ x. omega arith; trans = λ x y w p q. omega arith; more = λ x y. omega arith; both = λ x y v w p q. omega arith }
 
 -- a sum of numbers that are each no more is no more
-pub sum-le : (own : ℕ) (a b : ℕ → ℕ) (n : ℕ) → ((j : ℕ) → j < n → a j ≤ b j) → fold ◌+◌ own a (hp n) ≤ fold ◌+◌ own b (hp n)
+pub sum-le : (own : ℕ) (a b : ℕ → ℕ) (n : ℕ) → ((j : ℕ) → j < n → a j ≤ b j) → fold_by ◌+◌ own a (hp n) ≤ fold_by ◌+◌ own b (hp n)
 sum-le own a b n p =
     gathered sum-grows (λ k. k) (λ k. omega arith) own own (omega arith) a b 0 0 zero-le n n (λ j _ l. (l, p j l))
 

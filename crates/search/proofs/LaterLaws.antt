@@ -1,7 +1,7 @@
 -- Facts about the later of two answers, and the latest of some. Assumes nothing.
-use Rattle.std.proofs.Common.{ℕ, zero, suc, max, ◌≤◌, ◌<◌, arith, ◌≡◌, refl, ap, sym, subst, ◌∙◌, List, [], ◌∷◌, ◌++◌, length, get_or}
+use Rattle.std.proofs.Common.{ℕ, zero, suc, max, ◌≤◌, ◌<◌, arith, ◌≡◌, refl, ap, sym, subst, ◌∙◌, List, [], ◌∷◌, ◌++◌, length, get_or, fold}
 use Rattle.std.proofs.Math.Decide.{dec_le}
-use mathlib.Core.List.{foldl, foldl-append}
+use Rattle.std.proofs.lemmas.List.Sums.{fold-append}
 use Rattle.search.specs.declared.demand.Response.{Response}
 use Rattle.search.specs.declared.demand.Response.TheVariants.{Within, Unschedulable}
 use Rattle.search.specs.Least.{NoLater, later, latest_of, IsLatest}
@@ -46,15 +46,15 @@ latest-one r = later_first r
 
 -- one more at the end, and in front
 pub latest-next : (rs : List Response) (r : Response) → latest_of (rs ++ (r ∷ [])) ≡ later (latest_of rs) r
-latest-next rs r = foldl-append later (Within (record { 0 = 0 })) rs (r ∷ [])
+latest-next rs r = fold-append later (Within (record { 0 = 0 })) rs (r ∷ [])
 
-later-fold : (a b : Response) (rs : List Response) → foldl later (later a b) rs ≡ later a (foldl later b rs)
+later-fold : (a b : Response) (rs : List Response) → fold later (later a b) rs ≡ later a (fold later b rs)
 later-fold a b [] = refl
-later-fold a b (r ∷ rs) = ap (λ (x : Response). foldl later x rs) (later-assoc a b r) ∙ later-fold a (later b r) rs
+later-fold a b (r ∷ rs) = ap (λ (x : Response). fold later x rs) (later-assoc a b r) ∙ later-fold a (later b r) rs
 
 pub latest-front : (r : Response) (rs : List Response) → latest_of (r ∷ rs) ≡ later r (latest_of rs)
 latest-front r rs =
-    ap (λ (x : Response). foldl later x rs) (later_first r ∙ sym (later_last r)) ∙ later-fold r (Within (record { 0 = 0 })) rs
+    ap (λ (x : Response). fold later x rs) (later_first r ∙ sym (later_last r)) ∙ later-fold r (Within (record { 0 = 0 })) rs
   where
     later_last : (a : Response) → later a (Within (record { 0 = 0 })) ≡ a
     later_last (Within x) = ap (λ (n : ℕ). Within (record { 0 = n })) (omega arith)

@@ -3,7 +3,7 @@ use Rattle.std.proofs.Common.{ℕ, zero, suc, ◌+◌, ◌-◌, ◌≤◌, ◌<�
 use Rattle.std.proofs.Math.ListN.{get_or-append}
 use Rattle.std.proofs.Math.Nat.{sub_self}
 use Rattle.std.proofs.lemmas.List.{map-append, length-map, get_or_at}
-use Rattle.search.specs.Positions.{run, between, hp, fold}
+use Rattle.search.specs.Positions.{run, between, hp, fold_by}
 
 -- ---- one position more
 
@@ -69,46 +69,46 @@ between-front a b h =
     ap (run a) e ∙ run-cons a (b - (a + 1))
 
 module _ {B : Type 0} (op : B → B → B) where
-  fold-snoc : (z : B) (F : ℕ → B) (ks : List ℕ) (k : ℕ) → fold op z F (ks ++ (k ∷ [])) ≡ op (fold op z F ks) (F k)
-  unfolding fold
+  fold-snoc : (z : B) (F : ℕ → B) (ks : List ℕ) (k : ℕ) → fold_by op z F (ks ++ (k ∷ [])) ≡ op (fold_by op z F ks) (F k)
+  unfolding fold_by
   fold-snoc z F [] k = refl
   fold-snoc z F (l ∷ ks) k = fold-snoc (op z (F l)) F ks k
 
-  fold-suc : (z : B) (F : ℕ → B) (a n : ℕ) → fold op z F (run a (suc n)) ≡ op (fold op z F (run a n)) (F (a + n))
+  fold-suc : (z : B) (F : ℕ → B) (a n : ℕ) → fold_by op z F (run a (suc n)) ≡ op (fold_by op z F (run a n)) (F (a + n))
   unfolding run
   fold-suc z F a n = fold-snoc z F (run a n) (a + n)
 
 -- a loop that gathers over the positions from `from` on: before the first, and at one more
 module _ {B : Type 0} (op : B → B → B) (z : B) (F : ℕ → B) (from : ℕ) where
-  pub fold-none : fold op z F (between from from) ≡ z
-  unfolding run fold
-  fold-none = ap (λ (n : ℕ). fold op z F (run from n)) (sub_self from)
+  pub fold-none : fold_by op z F (between from from) ≡ z
+  unfolding run fold_by
+  fold-none = ap (λ (n : ℕ). fold_by op z F (run from n)) (sub_self from)
 
-  pub fold_next : (k : ℕ) (so_far it : B) → from ≤ k → so_far ≡ fold op z F (between from k) → it ≡ F k
-      → op so_far it ≡ fold op z F (between from (k + 1))
+  pub fold_next : (k : ℕ) (so_far it : B) → from ≤ k → so_far ≡ fold_by op z F (between from k) → it ≡ F k
+      → op so_far it ≡ fold_by op z F (between from (k + 1))
   fold_next k so_far it h e f =
-      ap₂ op e f ∙ sym (ap (fold op z F) (between_next from k h) ∙ fold-snoc op z F (between from k) k)
+      ap₂ op e f ∙ sym (ap (fold_by op z F) (between_next from k h) ∙ fold-snoc op z F (between from k) k)
 
 -- a loop that gathers from the last position up to the first: one more in front, where the grouping does not matter. A start before the first is one after it
 module _ {B : Type 0} (op : B → B → B) (assoc : (a b c : B) → op (op a b) c ≡ op a (op b c)) where
-  fold-in-front : (x z : B) (F : ℕ → B) (ks : List ℕ) → fold op (op x z) F ks ≡ op x (fold op z F ks)
-  unfolding fold
+  fold-in-front : (x z : B) (F : ℕ → B) (ks : List ℕ) → fold_by op (op x z) F ks ≡ op x (fold_by op z F ks)
+  unfolding fold_by
   fold-in-front x z F [] = refl
-  fold-in-front x z F (k ∷ ks) = ap (λ (b : B). fold op b F ks) (assoc x z (F k)) ∙ fold-in-front x (op z (F k)) F ks
+  fold-in-front x z F (k ∷ ks) = ap (λ (b : B). fold_by op b F ks) (assoc x z (F k)) ∙ fold-in-front x (op z (F k)) F ks
 
   pub fold-front : (y z : B) (F : ℕ → B) (k to : ℕ) (it below : B) → k < to → op z (F k) ≡ op (F k) y → it ≡ F k
-      → below ≡ fold op y F (between (k + 1) to) → op it below ≡ fold op z F (between k to)
-  unfolding fold
+      → below ≡ fold_by op y F (between (k + 1) to) → op it below ≡ fold_by op z F (between k to)
+  unfolding fold_by
   fold-front y z F k to it below h e f g =
       ap₂ op f g
       ∙ sym (fold-in-front (F k) y F (between (k + 1) to))
-      ∙ ap (λ (b : B). fold op b F (between (k + 1) to)) (sym e)
-      ∙ ap (fold op z F) (sym (between-front k to h))
+      ∙ ap (λ (b : B). fold_by op b F (between (k + 1) to)) (sym e)
+      ∙ ap (fold_by op z F) (sym (between-front k to h))
 
 -- only what stands at the positions counts
 pub fold_same : {B : Type 0} (op : B → B → B) (z : B) (F G : ℕ → B) (a n : ℕ) → ((k : ℕ) → a ≤ k → k < a + n → F k ≡ G k)
-    → fold op z F (run a n) ≡ fold op z G (run a n)
-unfolding run fold
+    → fold_by op z F (run a n) ≡ fold_by op z G (run a n)
+unfolding run fold_by
 fold_same op z F G a zero p = refl
 fold_same op z F G a (suc n) p =
     fold-suc op z F a n
@@ -117,18 +117,18 @@ fold_same op z F G a (suc n) p =
 
 -- what holds of the start, and is kept at each position, holds of what is gathered
 pub fold-keeps : {B : Type 0} (op : B → B → B) (P : B → Type 0) (z : B) (F : ℕ → B) (ks : List ℕ) → P z
-    → ((b : B) (k : ℕ) → P b → P (op b (F k))) → P (fold op z F ks)
-unfolding fold
+    → ((b : B) (k : ℕ) → P b → P (op b (F k))) → P (fold_by op z F ks)
+unfolding fold_by
 fold-keeps op P z F [] start step = start
 fold-keeps op P z F (k ∷ ks) start step = fold-keeps op P (op z (F k)) F ks (step z k start) step
 
 -- a part of what is gathered, where the part of two put together is that of the parts
 pub fold-part : {B C : Type 0} (op : B → B → B) (op' : C → C → C) (part : B → C) → ((a b : B) → part (op a b) ≡ op' (part a) (part b))
-    → (z : B) (F : ℕ → B) (ks : List ℕ) → part (fold op z F ks) ≡ fold op' (part z) (λ k. part (F k)) ks
-unfolding fold
+    → (z : B) (F : ℕ → B) (ks : List ℕ) → part (fold_by op z F ks) ≡ fold_by op' (part z) (λ k. part (F k)) ks
+unfolding fold_by
 fold-part op op' part h z F [] = refl
 fold-part {C = C} op op' part h z F (k ∷ ks) =
-    fold-part op op' part h (op z (F k)) F ks ∙ ap (λ (c : C). fold op' c (λ l. part (F l)) ks) (h z (F k))
+    fold-part op op' part h (op z (F k)) F ks ∙ ap (λ (c : C). fold_by op' c (λ l. part (F l)) ks) (h z (F k))
 
 -- ---- gathering over more positions, where more stands
 
@@ -160,19 +160,19 @@ pub record Grows {B : Type 0} (op : B → B → B) (R : B → B → Type 0) : Ty
   pub both : (x y v w : B) → R x v → R y w → R (op x y) (op v w)
 
 module _ {B : Type 0} {op : B → B → B} {R : B → B → Type 0} (grows : Grows op R) where
-  longer : (z : B) (F : ℕ → B) (a m n : ℕ) → m ≤ n → R (fold op z F (run a m)) (fold op z F (run a n))
+  longer : (z : B) (F : ℕ → B) (a m n : ℕ) → m ≤ n → R (fold_by op z F (run a m)) (fold_by op z F (run a n))
   longer z F a m zero h = let e : m ≡ 0 = omega arith in rw e (grows.same _)
   longer z F a m (suc n) h = go (eq-or-lt_of_le h) (longer z F a m n)
     where
-      go : (m ≡ suc n) ⊎ (m < suc n) → (m ≤ n → R (fold op z F (run a m)) (fold op z F (run a n)))
-          → R (fold op z F (run a m)) (fold op z F (run a (suc n)))
+      go : (m ≡ suc n) ⊎ (m < suc n) → (m ≤ n → R (fold_by op z F (run a m)) (fold_by op z F (run a n)))
+          → R (fold_by op z F (run a m)) (fold_by op z F (run a (suc n)))
       go (inl e) rest = rw e (grows.same _)
       go (inr l) rest = rw (fold-suc op z F a n) (grows.trans _ _ _ (rest (omega arith)) (grows.more _ _))
 
   module _ (place : ℕ → ℕ) (rises : Rising place) (y z : B) (start : R y z) (F G : ℕ → B) (a c : ℕ) (first : c ≤ place a) where
     by_place : (n d : ℕ) → ((k : ℕ) → a ≤ k → k < a + n → (place k < d) × R (F k) (G (place k)))
-        → R (fold op y F (run a n)) (fold op z G (between c d))
-    unfolding run fold
+        → R (fold_by op y F (run a n)) (fold_by op z G (between c d))
+    unfolding run fold_by
     by_place zero d p = grows.trans _ _ _ start (longer z G c 0 (d - c) zero-le)
     by_place (suc n) d p =
         let k = a + n in
@@ -186,5 +186,5 @@ module _ {B : Type 0} {op : B → B → B} {R : B → B → Type 0} (grows : Gro
 
     -- what stands at each position from a on and below b stands, or more, at its place from c on and below d
     pub gathered : (b d : ℕ) → ((k : ℕ) → a ≤ k → k < b → (place k < d) × R (F k) (G (place k)))
-        → R (fold op y F (between a b)) (fold op z G (between c d))
+        → R (fold_by op y F (between a b)) (fold_by op z G (between c d))
     gathered b d p = by_place (b - a) d (λ k h l. p k h (omega arith))

@@ -1,13 +1,13 @@
 -- Terms in classes, which a list tells: 0 to 7 are rounds, 8 has those that are taken by their share alone, and 9 those that are counted.
 use Rattle.std.specs.Prelude.{ℕ, ◌+◌, ◌*◌, ◌≤◌, Bool, List, if◌then◌else◌, nat_le, nat_lt, slice_index, ◌==◌}
-use Rattle.search.specs.Positions.{hp, fold}
+use Rattle.search.specs.Positions.{hp, fold_by}
 use Rattle.search.specs.declared.demand.Term.{Term}
 use Rattle.search.specs.Demand.{work_of}
 use Rattle.search.specs.Shares.{share_of}
 
 -- a number of each of the first n terms, added up over some of them
 unfoldable pub sum_over : (ℕ → Bool) → (ℕ → ℕ) → ℕ → ℕ
-sum_over some x n = fold ◌+◌ 0 (λ j. if some j then x j else 0) (hp n)
+sum_over some x n = fold_by ◌+◌ 0 (λ j. if some j then x j else 0) (hp n)
 
 -- those of one class, of the classes before it, and of it and those after it
 abbrev pub in_class : List ℕ → ℕ → ℕ → Bool

@@ -1,7 +1,7 @@
 -- How often the terms are known to be activated, from turn to turn of a search: a count for each of the first n terms, which holds up to its end.
 use Rattle.std.specs.Prelude.{ℕ, ◌+◌, ◌-◌, ◌*◌, ◌≤◌, ◌<◌, ◌≡◌, List, length, slice_index_or}
 use Rattle.search.specs.declared.demand.Term.{Term}
-use Rattle.search.specs.Positions.{hp, fold}
+use Rattle.search.specs.Positions.{hp, fold_by}
 use Rattle.search.specs.Demand.{ceil, activations_of, demand_of}
 use Rattle.search.specs.declared.response.Count.{Count}
 
@@ -26,7 +26,7 @@ raised_to t r c = count (c.activations + missing_of t.period.0 c.end.0 r) (c.end
 
 -- what the counts ask for: the task's own work, and a weight for each activation
 unfoldable pub asked_of : ℕ → (ℕ → Term) → List Count → ℕ → ℕ
-asked_of own t counts n = fold ◌+◌ own (λ j. (count_in counts j).activations * (t j).weight.0) (hp n)
+asked_of own t counts n = fold_by ◌+◌ own (λ j. (count_in counts j).activations * (t j).weight.0) (hp n)
 
 -- each count holds up to its end
 pub record Kept (t : ℕ → Term) (n : ℕ) (counts : List Count) : Type 0 where

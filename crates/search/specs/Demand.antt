@@ -1,7 +1,7 @@
 -- The demand of a task and of those above it.
 use Rattle.std.specs.Prelude.{ℕ, ◌+◌, ◌-◌, ◌*◌, ◌/◌, ◌≤◌}
 use Rattle.search.specs.declared.demand.Term.{Term}
-use Rattle.search.specs.Positions.{hp, fold}
+use Rattle.search.specs.Positions.{hp, fold_by}
 
 -- what one task of higher priority asks for: w ticks at each activation
 abbrev pub term_of : ℕ → ℕ → ℕ → Term
@@ -20,7 +20,7 @@ work_of r t = activations_of r t * t.weight.0
 
 -- the demand at r: the task's own work, and that of each task above it, where the one at j asks for `terms j`
 unfoldable pub demand_of : ℕ → (ℕ → Term) → ℕ → ℕ → ℕ
-demand_of own terms i r = fold ◌+◌ own (λ j. work_of r (terms j)) (hp i)
+demand_of own terms i r = fold_by ◌+◌ own (λ j. work_of r (terms j)) (hp i)
 
 -- a asks for no more than b
 pub record NoMore (a b : Term) : Type 0 where

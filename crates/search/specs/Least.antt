@@ -1,7 +1,6 @@
 -- The smallest whole number that equals its demand, for any demand f : ℕ → ℕ. It is said twice: as a function, which computes and which
 -- the contracts cite, and as a relation, which says what the answer means. proofs/LeastLaws.antt has that the two are one.
-use Rattle.std.specs.Prelude.{ℕ, zero, suc, min, max, ◌≤◌, ◌<◌, ◌≡◌, true, false, length, List, slice_index_or, ◌==◌}
-use mathlib.Core.List.{foldl}
+use Rattle.std.specs.Prelude.{ℕ, zero, suc, min, max, ◌≤◌, ◌<◌, ◌≡◌, true, false, length, List, slice_index_or, ◌==◌, fold}
 use Rattle.search.specs.declared.demand.Response.{Response}
 use Rattle.search.specs.declared.demand.Response.TheVariants.{Within, Unschedulable}
 
@@ -50,7 +49,7 @@ later Unschedulable b = Unschedulable
 
 -- the latest of some answers
 abbrev pub latest_of : List Response → Response
-latest_of rs = foldl later (Within (record { 0 = 0 })) rs
+latest_of rs = fold later (Within (record { 0 = 0 })) rs
 
 -- what that means: none of them is later, and it is one of them
 pub record IsLatest (rs : List Response) (r : Response) : Type 0 where

@@ -1,11 +1,11 @@
 -- The total is the sum of the lines so far. Assumes nothing.
 use Rattle.std.proofs.Common.{◌≡◌, ◌+◌, ◌*◌, ◌≤◌}
-use Rattle.search.specs.Positions.{between, fold}
+use Rattle.search.specs.Positions.{between, fold_by}
 use Rattle.table.specs.Tables.{at}
 use Rattle.laws.specs.Explanations.{adds_at}
 use Rattle.laws.proofs.explanations.total_of.Given as goal
 
 abbrev pub invariant-loop-j : goal.invariant-loop-j
 invariant-loop-j l =
-    (l.total ≡ fold ◌+◌ ((at l.table l.i).work.0 + l.need.blocker.lasts.0) (adds_at l.table l.need l.i l.r) (between 0 l.j))
+    (l.total ≡ fold_by ◌+◌ ((at l.table l.i).work.0 + l.need.blocker.lasts.0) (adds_at l.table l.need l.i l.r) (between 0 l.j))
     × (l.total ≤ 500000000 + l.j * 250000000000000000)

@@ -1,7 +1,7 @@
 -- `laws::orders::demand_in_order` meets its contract. Assumes nothing.
 use Rattle.std.proofs.Common.{ℕ, ◌≡◌, refl, ap, ◌∙◌, length, take, List, arith}
 use Rattle.std.proofs.Math.Seq.{take-length}
-use Rattle.search.specs.Positions.{fold}
+use Rattle.search.specs.Positions.{fold_by}
 use Rattle.search.specs.Terms.{term_in}
 use Rattle.laws.specs.Equation.{demand_over}
 use Rattle.laws.proofs.AnyOrder.{demand-each-once}
@@ -9,7 +9,7 @@ use Rattle.laws.proofs.OrderLaws.{once-below, once-long, demand-over-next}
 use Rattle.laws.proofs.orders.demand_in_order.Goals as goal
 
 pub loop-j-init : goal.loop-j-init
-unfolding fold
+unfolding fold_by
 loop-j-init c = (refl, omega arith)
 
 pub offset_bounds-terms-j : goal.offset_bounds-terms-j
