@@ -79,7 +79,7 @@ pub record Long (r : Terms) : Type 0 where
   pub each : (m : Single) → length (terms_for m r) ≡ 32
 
 -- under each method one term put in
-pub record Put (j : ℕ) (v : Single → Term) (before after : Terms) : Type 0 where
+pub record TermPut (j : ℕ) (v : Single → Term) (before after : Terms) : Type 0 where
   pub each : (m : Single) → terms_for m after ≡ set (terms_for m before) j (v m)
 
 -- the terms w of the tasks from a on and below b

@@ -8,7 +8,7 @@ ghost use Rattle.search.specs.Positions.{hp};
 ghost use Rattle.table.specs.Accepted.{AcceptedTable};
 ghost use Rattle.analysis.specs.Gather.{union_of, hit, larger_of};
 ghost use Rattle.analysis.specs.Costs.{ecb_of, term_with};
-ghost use Rattle.analysis.specs.Carried.{Next, Small, count_of, Passing, Ledger, Long, Put, Weighed, WeighedUnder, RowWeighed};
+ghost use Rattle.analysis.specs.Carried.{Next, Small, count_of, Passing, Ledger, Long, TermPut, Weighed, WeighedUnder, RowWeighed};
 
 use crate::costs::{Hit, term};
 use cache::sets::CacheSet;
@@ -97,7 +97,7 @@ impl Terms {
 // Puts in the terms of the task at j, by its column.
 fn put(terms: &mut Terms, table: &Table, j: usize, column: Column)
     requires { AcceptedTable table.now × (j < table.now.count) × Small column × Long terms.old }
-    ensures { Put j (λ m. term_with table.now j (count_of (ecb_of table.now j) column m)) terms.old terms.new }
+    ensures { TermPut j (λ m. term_with table.now j (count_of (ecb_of table.now j) column m)) terms.old terms.new }
 {
     let reloaded = column.all.intersection(table.task(j).ecb).size();
     terms.none[j] = term(table, j, Reloads(0));

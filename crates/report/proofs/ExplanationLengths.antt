@@ -27,7 +27,7 @@ use Rattle.analysis.specs.Needs.{need_of}
 use Rattle.writing.specs.Text.{spelled}
 use Rattle.writing.proofs.Spelling.{spelled_short}
 use Rattle.report.proofs.Lists.{flat_map-more}
-use Rattle.report.specs.Explanation.{number_of, needed_text, need_line, activations_in, name_at, victim_text, reason_line, reason_lines, explanation_of}
+use Rattle.report.specs.Explanation.{method_number, needed_text, need_line, activations_in, name_at, victim_text, reason_line, reason_lines, explanation_of}
 use Rattle.report.specs.Explained.{NeedInRange, Blocker, victim_in}
 use Rattle.report.proofs.ExplanationParts.{nine-digits, needed-short, victim-below}
 use Rattle.report.proofs.Ranges.{Needed, needed}
@@ -51,7 +51,7 @@ digits-cost n h =
 
 -- ---- one line
 
-number-short : (m : Single) → number_of m < 10
+number-short : (m : Single) → method_number m < 10
 number-short None = omega arith
 number-short EcbOnly = omega arith
 number-short UcbOnly = omega arith
@@ -60,7 +60,7 @@ number-short EcbUnion = omega arith
 
 need-length : (t : Task) (need : Need)
     → length (need_line t need)
-    ≡ 8 + length (name_text t.name) + length (spelled (number_of need.method)) + length (needed_text need.time) + length (spelled (limit_of t))
+    ≡ 8 + length (name_text t.name) + length (spelled (method_number need.method)) + length (needed_text need.time) + length (spelled (limit_of t))
     + length (spelled t.work.0) + length (spelled need.blocker.lasts.0)
 unfolding need_line
 need-length t need = simp length-append (omega arith)
@@ -89,7 +89,7 @@ module _ (table : Table) (accepted : AcceptedTable table) (i : ℕ) (held : i < 
         arith,
         need-length t need,
         named-short i held,
-        spelled_short 0 (number_of need.method) (number-short need.method),
+        spelled_short 0 (method_number need.method) (number-short need.method),
         needed-short need.time p.time,
         nine-digits (limit_of t) (omega (arith, q.deadline, q.period)),
         digits-cost t.work.0 (omega (arith, q.work)),

@@ -1,10 +1,11 @@
--- Lists over positions and over the methods: one position more, and functions that agree. Assumes nothing.
+-- Lists over positions and over the numbers of the methods: one position more, and functions that agree. Assumes nothing.
 use Rattle.std.proofs.Common.{◌≡◌, refl, sym, ap, ◌∙◌, ℕ, zero, suc, ◌+◌, ◌<◌, ◌≤◌, eq-or-lt_of_le, arith, inl, inr, add-one, length, take, set, get_or, length-append, take-suc-set}
 use Rattle.std.specs.Prelude.{List, ◌++◌, map, flat_map}
-use Rattle.search.specs.Positions.{run, between, methods}
+use Rattle.search.specs.Positions.{run, between}
 use Rattle.search.proofs.PositionLaws.{map_next, map_at, map_same}
 use Rattle.std.proofs.lemmas.List.Folds.{flat_map-map}
 use Rattle.writing.proofs.Room.{flat_map-snoc}
+use Rattle.report.specs.Verdicts.{method_numbers}
 
 -- ---- one position more
 
@@ -34,15 +35,15 @@ pub flat_map-same : (f g : ℕ → List ℕ) (n : ℕ) → ((i : ℕ) → i < n 
 flat_map-same f g n h =
     sym (flat_map-map (λ t. t) f (between 0 n)) ∙ ap (flat_map (λ t. t)) (map_same f g n h) ∙ flat_map-map (λ t. t) g (between 0 n)
 
--- ---- the methods
+-- ---- the numbers of the methods
 
-pub methods-are : between 0 6 ≡ methods
+pub methods-are : between 0 6 ≡ method_numbers
 unfolding run
 methods-are = refl
 
 module _ {A : Type 0} (f : ℕ → A) where
-  pub methods-at : (m : ℕ) (d : A) → m < 6 → get_or (map f methods) m d ≡ f m
+  pub methods-at : (m : ℕ) (d : A) → m < 6 → get_or (map f method_numbers) m d ≡ f m
   methods-at m d h = ap (λ (ms : List ℕ). get_or (map f ms) m d) (sym methods-are) ∙ map_at f 6 m d h
 
-  pub methods-same : (g : ℕ → A) → ((m : ℕ) → m < 6 → f m ≡ g m) → map f methods ≡ map g methods
+  pub methods-same : (g : ℕ → A) → ((m : ℕ) → m < 6 → f m ≡ g m) → map f method_numbers ≡ map g method_numbers
   methods-same g h = ap (map f) (sym methods-are) ∙ map_same f g 6 h ∙ ap (map g) methods-are

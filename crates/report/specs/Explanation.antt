@@ -25,19 +25,19 @@ needed_text (Within R) = spelled R.0
 needed_text Unschedulable = 98 ∷ 101 ∷ 121 ∷ 111 ∷ 110 ∷ 100 ∷ []
 
 -- the number by which a caller names a method that counts
-abbrev pub number_of : Single → ℕ
-number_of None = 0
-number_of EcbOnly = 1
-number_of UcbOnly = 2
-number_of UcbUnion = 3
-number_of EcbUnion = 4
+abbrev pub method_number : Single → ℕ
+method_number None = 0
+method_number EcbOnly = 1
+method_number UcbOnly = 2
+method_number UcbUnion = 3
+method_number EcbUnion = 4
 
 -- the first line: `X`, name, method explained, need, D − J, C, and as B how long the task is blocked
 unfoldable pub need_line : Task → Need → List ℕ
 need_line t need =
     line_of (88 ∷ [])
     (name_text t.name
-    ∷ spelled (number_of need.method)
+    ∷ spelled (method_number need.method)
     ∷ needed_text need.time
     ∷ spelled (limit_of t)
     ∷ spelled t.work.0

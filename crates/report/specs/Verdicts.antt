@@ -3,8 +3,12 @@
 use Rattle.std.specs.Prelude.{ℕ, Bool, true, false, ◌&&◌, List, [], ◌∷◌, map}
 use Rattle.search.specs.declared.demand.Response.{Response}
 use Rattle.search.specs.declared.demand.Response.TheVariants.{Within, Unschedulable}
-use Rattle.search.specs.Positions.{between, fold_by, methods}
+use Rattle.search.specs.Positions.{between, fold_by}
 use Rattle.writing.specs.Text.{line_of, yes_no}
+
+-- the numbers of the six methods, for each of which something is listed
+abbrev pub method_numbers : List ℕ
+method_numbers = 0 ∷ 1 ∷ 2 ∷ 3 ∷ 4 ∷ 5 ∷ []
 
 abbrev pub has_response : Response → Bool
 has_response (Within t) = true
@@ -16,4 +20,4 @@ verdict count answers = fold_by ◌&&◌ true (λ i. has_response (answers i)) (
 
 -- the last line: `V`, and the verdict of each method
 unfoldable pub verdict_line : ℕ → (ℕ → ℕ → Response) → List ℕ
-verdict_line count answers = line_of (86 ∷ []) (map (λ m. yes_no (verdict count (answers m))) methods)
+verdict_line count answers = line_of (86 ∷ []) (map (λ m. yes_no (verdict count (answers m))) method_numbers)

@@ -2,9 +2,9 @@
 use Rattle.std.proofs.Common.{ℕ, ◌≤◌, arith}
 use Rattle.table.specs.declared.refusals.Reason.{Reason}
 use Rattle.table.specs.declared.refusals.Reason.TheVariants.{TooLong, NotEnded, Shape, Name, Number, Range, Marks, Order, KnownName, TooManyTasks, NoTask, Method, Position, ShortBuffer, OtherTask, TooManyAccesses, Blocking, NoText}
-use Rattle.table.specs.Numbers.{number_of}
+use Rattle.table.specs.Numbers.{reason_number}
 
-pub number-small : (reason : Reason) → number_of reason ≤ 25
+pub number-small : (reason : Reason) → reason_number reason ≤ 25
 number-small TooLong = omega arith
 number-small NotEnded = omega arith
 number-small Shape = omega arith

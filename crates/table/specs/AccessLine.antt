@@ -14,7 +14,7 @@ use Rattle.table.specs.declared.accesses.Access.{Access}
 use Rattle.table.specs.declared.accesses.line.AccessFields.{AccessFields}
 
 -- these are the fields of an access line, which has five, and `A` the first
-pub record AreFieldsOf (line : List ℕ) (f : AccessFields) : Type 0 where
+pub record AreAccessFields (line : List ℕ) (f : AccessFields) : Type 0 where
   pub shaped : has_shape 65 5 line ≡ true
   pub task : f.task.now ≡ field 1 line
   pub ceiling : f.ceiling.now ≡ field 2 line

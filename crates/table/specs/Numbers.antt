@@ -4,25 +4,25 @@ use Rattle.table.specs.declared.refusals.Reason.{Reason}
 use Rattle.table.specs.declared.refusals.Refusal.{Refusal}
 use Rattle.table.specs.declared.refusals.Reason.TheVariants.{TooLong, NotEnded, Shape, Name, Number, Range, Marks, Order, KnownName, TooManyTasks, NoTask, Method, Position, ShortBuffer, OtherTask, TooManyAccesses, Blocking, NoText}
 
-abbrev pub number_of : Reason → ℕ
-number_of TooLong = 1
-number_of NotEnded = 2
-number_of Shape = 3
-number_of Name = 4
-number_of Number = 5
-number_of Range = 6
-number_of Marks = 7
-number_of Order = 8
-number_of KnownName = 9
-number_of TooManyTasks = 10
-number_of NoTask = 11
-number_of Method = 12
-number_of Position = 13
-number_of ShortBuffer = 14
-number_of OtherTask = 15
-number_of TooManyAccesses = 16
-number_of Blocking = 17
-number_of NoText = 25
+abbrev pub reason_number : Reason → ℕ
+reason_number TooLong = 1
+reason_number NotEnded = 2
+reason_number Shape = 3
+reason_number Name = 4
+reason_number Number = 5
+reason_number Range = 6
+reason_number Marks = 7
+reason_number Order = 8
+reason_number KnownName = 9
+reason_number TooManyTasks = 10
+reason_number NoTask = 11
+reason_number Method = 12
+reason_number Position = 13
+reason_number ShortBuffer = 14
+reason_number OtherTask = 15
+reason_number TooManyAccesses = 16
+reason_number Blocking = 17
+reason_number NoText = 25
 
 abbrev pub untold : Reason → Refusal
 untold reason = record { reason = reason; line = 0 }

@@ -13,7 +13,7 @@ use Rattle.table.specs.Names.{knows}
 use Rattle.table.specs.Tasks.{pack_name, no_sets}
 
 -- these are the fields of a task line, which has nine, and `T` the first
-pub record AreFieldsOf (line : List ℕ) (f : TaskFields) : Type 0 where
+pub record AreTaskFields (line : List ℕ) (f : TaskFields) : Type 0 where
   pub shaped : has_shape 84 9 line ≡ true
   pub name : f.name.now ≡ field 1 line
   pub work : f.work.now ≡ field 2 line

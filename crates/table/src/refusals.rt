@@ -1,7 +1,7 @@
 // Refusals: why a text or a call is refused, and which line is told.
 
 ghost use Rattle.std.specs.Prelude.{◌≡◌};
-ghost use Rattle.table.specs.Numbers.{number_of, untold};
+ghost use Rattle.table.specs.Numbers.{reason_number, untold};
 
 // Why a text, a table or a call is refused, each with its number.
 #[derive(Clone, Copy, PartialEq, Eq)]
@@ -28,7 +28,7 @@ pub enum Reason {
 
 impl Reason {
     pub fn number(self) -> u64
-        ensures { result ≡ number_of self }
+        ensures { result ≡ reason_number self }
     {
         self as u64
     }

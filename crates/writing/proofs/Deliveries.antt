@@ -3,7 +3,7 @@ use Rattle.std.proofs.Common.{◌≡◌, refl, ℕ, ◌≤◌, ◌<◌, ◌^◌,
 use Rattle.std.proofs.lemmas.Bool.{lt-leb}
 use Rattle.table.specs.declared.refusals.Reason.TheVariants.{ShortBuffer}
 use Rattle.table.specs.declared.refusals.Refusal.{Refusal}
-use Rattle.table.specs.Numbers.{number_of, untold}
+use Rattle.table.specs.Numbers.{reason_number, untold}
 use Rattle.table.proofs.NumberLaws.{number-small}
 use Rattle.writing.proofs.Spelling.{spelled_short}
 use Rattle.writing.specs.Delivery.{Put, Delivered}
@@ -19,4 +19,4 @@ too_long long w = (rw (lt-leb _ _ long) at w.answer, rw (lt-leb _ _ long) at w.b
 -- a refusal's number has two digits, and a number of 64 bits has at most 20
 pub error-short : (e : Refusal) → e.line < 2 ^ 64 → length (error_text e) ≤ 26
 unfolding error_text
-error-short e l = simp length-append (omega (arith, number-small e.reason, spelled_short 1 (number_of e.reason) (omega (arith, number-small e.reason)), spelled_short 19 e.line (omega arith)))
+error-short e l = simp length-append (omega (arith, number-small e.reason, spelled_short 1 (reason_number e.reason) (omega (arith, number-small e.reason)), spelled_short 19 e.line (omega arith)))

@@ -7,7 +7,7 @@ ghost use Rattle.table.specs.Tables.{at};
 ghost use Rattle.analysis.specs.Costs.{charge_under};
 ghost use Rattle.writing.specs.Text.{after_tab};
 ghost use Rattle.writing.specs.declared.writer.TheConstants.{ROOM};
-ghost use Rattle.report.specs.Explanation.{needed_text, number_of, need_line, activations_in, name_at, victim_text, reason_line, reason_lines};
+ghost use Rattle.report.specs.Explanation.{needed_text, method_number, need_line, activations_in, name_at, victim_text, reason_line, reason_lines};
 ghost use Rattle.report.specs.Explained.{Timed, victim_in, Grounds};
 
 use analysis::costs::{Charge, Single};
@@ -34,8 +34,8 @@ impl Text for Needed {
 }
 
 // The number by which a caller names a method.
-fn number_of(method: Single) -> u64
-    ensures { result ≡ number_of method }
+fn method_number(method: Single) -> u64
+    ensures { result ≡ method_number method }
 {
     match method {
         Single::None => 0,
@@ -55,7 +55,7 @@ pub fn write_need_line(draft: &mut Draft, task: &Task, need: &Need)
 {
     draft.push(b'X');
     draft.field(&task.name.text());
-    draft.field(&number_of(need.method));
+    draft.field(&method_number(need.method));
     draft.field(&Needed(need.time));
     draft.fields(&[
         task.deadline.0 - task.jitter.0,

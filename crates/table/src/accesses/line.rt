@@ -2,7 +2,7 @@
 ghost use Rattle.std.specs.Prelude.{◌≡◌, false, MatchOption};
 ghost use Rattle.table.specs.Fields.{has_shape};
 ghost use Rattle.table.specs.Rows.{unless_fault};
-ghost use Rattle.table.specs.AccessLine.{AreFieldsOf, access_rows, access_said};
+ghost use Rattle.table.specs.AccessLine.{AreAccessFields, access_rows, access_said};
 
 use crate::accesses::Access;
 use crate::refusals::Reason;
@@ -22,7 +22,7 @@ struct AccessFields<'a> {
 }
 
 fn cut(line: &[u8]) -> Option<AccessFields<'_>>
-    ensures { MatchOption result (has_shape 65 5 line.now ≡ false) (AreFieldsOf line.now) }
+    ensures { MatchOption result (has_shape 65 5 line.now ≡ false) (AreAccessFields line.now) }
 {
     let mut fields = Fields::of(line);
     if fields.next()? != b"A".as_slice() {

@@ -2,7 +2,7 @@
 ghost use Rattle.std.specs.Prelude.{◌≡◌, false, ◌&&◌, MatchOption};
 ghost use Rattle.table.specs.Fields.{has_shape};
 ghost use Rattle.table.specs.Rows.{unless_fault};
-ghost use Rattle.table.specs.TaskLine.{AreFieldsOf, read_times, times_of, times_in_range, times_in_order, task_rows, task_said};
+ghost use Rattle.table.specs.TaskLine.{AreTaskFields, read_times, times_of, times_in_range, times_in_order, task_rows, task_said};
 
 use crate::fields;
 use crate::refusals::Reason;
@@ -26,7 +26,7 @@ struct TaskFields<'a> {
 }
 
 fn cut(line: &[u8]) -> Option<TaskFields<'_>>
-    ensures { MatchOption result (has_shape 84 9 line.now ≡ false) (AreFieldsOf line.now) }
+    ensures { MatchOption result (has_shape 84 9 line.now ≡ false) (AreTaskFields line.now) }
 {
     let mut fields = Fields::of(line);
     if fields.next()? != b"T".as_slice() {

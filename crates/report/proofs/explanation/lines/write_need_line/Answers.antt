@@ -6,4 +6,4 @@ use Rattle.report.proofs.explanation.lines.write_need_line.Goals as goal
 pub returns : goal.returns
 unfolding need_line
 returns c =
-    rw (c.push-2.ensures, c.fields.ensures, c.field-3.ensures, c.field-2.ensures, c.number_of.ensures, c.field.ensures, c.text.ensures, c.push.ensures) (simp (append_assoc, append-nil))
+    rw (c.push-2.ensures, c.fields.ensures, c.field-3.ensures, c.field-2.ensures, c.method_number.ensures, c.field.ensures, c.text.ensures, c.push.ensures) (simp (append_assoc, append-nil))
