@@ -1,24 +1,26 @@
 -- Facts about the searches of one row. Assumes nothing.
-use Rattle.std.proofs.Common.{ℕ, ◌+◌, ◌≤◌, ◌<◌, zero-le, mul-le-mul_left, arith, ◌≡◌, refl, sym, ap, subst, ◌∙◌, Bool, true, false, List, length, get_or, set, take, get_or-take, length-take-le}
+use Rattle.std.specs.Prelude.{None as NoPlace}
+use Rattle.std.proofs.Common.{ℕ, ◌+◌, ◌≤◌, ◌<◌, zero-le, mul-le-mul_left, arith, ◌≡◌, refl, sym, ap, subst, ◌∙◌, true, false, ◌⊎◌, inl, inr, Option, Some, List, [], map, length, get_or, set, take, get_or-take, length-take-le}
 use Rattle.cache.specs.Sets.{Set}
 use Rattle.search.specs.declared.demand.Response.{Response}
 use Rattle.search.specs.declared.demand.Response.TheVariants.{Within, Unschedulable}
 use Rattle.search.specs.declared.demand.Row.{Row}
 use Rattle.search.specs.Demand.{term_of, demand_of, NoMore}
 use Rattle.search.specs.Terms.{term_in, InRange, Handed}
-use Rattle.search.specs.Least.{least_of, later, NoLater}
+use Rattle.search.specs.Least.{least_of, later, latest_of, NoLater}
 use Rattle.search.proofs.LeastLaws.{least_of-no-later}
 use Rattle.search.proofs.SoonerLaws.{none-latest}
-use Rattle.search.proofs.LaterLaws.{later-mono, latest-one}
+use Rattle.search.proofs.LaterLaws.{later-mono, later-assoc, later_first, later_last, later_again, latest-one}
+use Rattle.table.proofs.BlockingLaws.{or_some}
 use Rattle.search.proofs.DemandLaws.{no-more-self, demand-same, demand-mono, demand-more}
 use Rattle.search.specs.declared.response.Count.{Count}
 use Rattle.search.specs.Counts.{once, Started}
 use Rattle.search.proofs.CountLaws.{started-same, started-next, started-harder}
 use Rattle.table.specs.Tasks.{own_of, limit_of}
 use Rattle.table.specs.declared.accesses.Access.{Access}
-use Rattle.table.specs.Accesses.{may_block, added_by, plain_access, empty_access}
+use Rattle.table.specs.Accesses.{may_block, blocking, or_else, added_by, plain_access, empty_access}
 use Rattle.table.specs.declared.Table.{Table}
-use Rattle.table.specs.Tables.{at}
+use Rattle.table.specs.Tables.{at, accesses_of}
 use Rattle.table.specs.Accepted.{AcceptedTable}
 use Rattle.analysis.specs.declared.costs.Single.{Single}
 use Rattle.analysis.specs.declared.costs.Single.TheVariants.{None, EcbOnly, UcbOnly, UcbUnion, EcbUnion}
@@ -28,10 +30,10 @@ use Rattle.analysis.specs.declared.carried.Column.{Column}
 use Rattle.analysis.specs.declared.carried.Terms.{Terms}
 use Rattle.analysis.specs.Carried.{terms_for, Long, Ledger, Weighed, WeighedUnder}
 use Rattle.analysis.proofs.TermLaws.{has-none, joined}
-use Rattle.analysis.proofs.AnswerLaws.{Over, over-none, over-yes, over-no, over-all, over-plain}
-use Rattle.analysis.specs.Analysis.{least_under, response_of, Blocks}
+use Rattle.analysis.proofs.AnswerLaws.{latest_over, blocking-same, latest-same, latest-with, among}
+use Rattle.analysis.specs.Analysis.{least_under, answer_of, response_of, Blocks}
 use Rattle.analysis.specs.declared.rows.Answers.{Answers}
-use Rattle.analysis.specs.Rows.{answer_in, Answered, cheaper, Rising, WithOne, row_told, plain_of, Left, row_of}
+use Rattle.analysis.specs.Rows.{answer_in, Answered, cheaper, Rising, WithOne, row_told, plain_of, Left, row_of, OneBlocks}
 
 -- ---- a cheaper method asks for no more
 
@@ -178,40 +180,96 @@ pub plain-longer : (table : Table) (i c d : ℕ) {counts : List Count} → Accep
 plain-longer table i c d accepted here h =
     started-harder c d i _ _ _ (plain-ranged table i accepted here) (λ j l. no-more-self _ (plain-ranged table i accepted here j l)) (λ j l. (refl, refl)) h
 
--- after the first n accesses: the answers over those that may block, and whether any may
-pub record Passed (table : Table) (i n : ℕ) (s : Answers) (some : Bool) : Type 0 where
-  pub over : (m : Single) → Over (λ a. least_under table a m i (limit_of (at table i))) i table.accesses n (answer_in m s) some
+-- what one access answers under a method
+abbrev pub by_one : Table → ℕ → Single → Access → Response
+by_one table i m a = least_under table a m i (limit_of (at table i))
+
+-- the longest so far of the first n accesses that may block
+abbrev pub LongestOf : Table → ℕ → ℕ → ℕ → Option ℕ → Type 0
+LongestOf table i n most (Some k) = (k < n) × (may_block i (get_or table.accesses k empty_access) ≡ true)
+LongestOf table i n most NoPlace = (most ≡ 0) × (blocking i (take n table.accesses) ≡ [])
+
+-- after the first n accesses, and one that was taken before: the answers over those that may block
+pub record Passed (table : Table) (i first n : ℕ) (s : Answers) : Type 0 where
+  pub over : (m : Single) → answer_in m s ≡ later (by_one table i m (get_or table.accesses first empty_access)) (latest_over (by_one table i m) i table.accesses n)
   pub rising : Rising s
 
-module _ (table : Table) (i : ℕ) where
-  pub passed-none : Passed table i 0 first_answers false
-  passed-none = record { over = λ m. rw (first-is m) over-none; rising = rising-first }
+module _ (table : Table) (i : ℕ) (accepted : AcceptedTable table) where
+  within : (n : ℕ) → n < table.access_count → n < length table.accesses
+  within n few = omega (arith, accepted.listed, few)
 
-  pub passed-all : table.access_count ≡ 0 → Passed table i table.access_count first_answers false
-  passed-all e = subst (λ (n : ℕ). Passed table i n first_answers false) (sym e) passed-none
+  pub longest-none : LongestOf table i 0 0 NoPlace
+  longest-none = (refl, refl)
 
-  module _ (accepted : AcceptedTable table) (here : i < table.count) (n : ℕ) (some : Bool) (few : n < table.access_count) {s : Answers} (p : Passed table i n s some) where
-    within : n < length table.accesses
-    within = omega (arith, accepted.listed)
+  pub longest-kept : (n most : ℕ) (found : Option ℕ) → n < table.access_count → (may_block i (get_or table.accesses n empty_access) ≡ false) ⊎ (1 ≤ most)
+      → LongestOf table i n most found → LongestOf table i (n + 1) most found
+  longest-kept n most (Some k) few h p = (omega (arith, p.0), p.1)
+  longest-kept n most NoPlace few (inl e) p = (p.0, blocking-same (by_one table i None) i table.accesses n (within n few) e ∙ p.1)
+  longest-kept n most NoPlace few (inr h) p = absurd (omega (arith, p.0))
 
-    pub passed-yes : may_block i (get_or table.accesses n empty_access) ≡ true → {t : Answers}
-        → WithOne table (get_or table.accesses n empty_access) i s t → Passed table i (n + 1) t true
-    passed-yes e w = record {
-      over = λ m. over-yes n _ some within (p.over m) e _ (w.each m);
-      rising = rising-next table _ i accepted here _ _ p.rising w;
+  pub longest-all : (most : ℕ) (found : Option ℕ) → LongestOf table i table.access_count most found → OneBlocks table i found
+  longest-all most (Some k) p = p
+  longest-all most NoPlace p = p.1
+
+  module _ (here : i < table.count) where
+    pub passed-first : (first : ℕ) {s : Answers} → WithOne table (get_or table.accesses first empty_access) i first_answers s → Passed table i first 0 s
+    passed-first first w = record {
+      over = λ m. w.each m ∙ rw (first-is m) (later_first (by_one table i m (get_or table.accesses first empty_access)))
+          ∙ sym (later_last (by_one table i m (get_or table.accesses first empty_access)));
+      rising = rising-next table _ i accepted here _ _ rising-first w;
     }
 
-    pub passed-no : may_block i (get_or table.accesses n empty_access) ≡ false → Passed table i (n + 1) s some
-    passed-no e = record { over = λ m. over-no n _ some within (p.over m) e; rising = p.rising }
+    module _ (first n : ℕ) (few : n < table.access_count) {s : Answers} (p : Passed table i first n s) where
+      pub passed-yes : may_block i (get_or table.accesses n empty_access) ≡ true → {t : Answers}
+          → WithOne table (get_or table.accesses n empty_access) i s t → Passed table i first (n + 1) t
+      passed-yes e {t} w = record {
+        over = λ m.
+            let A = by_one table i m in
+            let a = get_or table.accesses first empty_access in
+            w.each m ∙ ap (λ (x : Response). later x (A (get_or table.accesses n empty_access))) (p.over m)
+            ∙ later-assoc (A a) (latest_over A i table.accesses n) (A (get_or table.accesses n empty_access))
+            ∙ ap (later (A a)) (sym (latest-with A i table.accesses n (within n few) e));
+        rising = rising-next table _ i accepted here _ _ p.rising w;
+      }
 
-  module _ {some : Bool} {s : Answers} (p : Passed table i table.access_count s some) where
-    pub answered-all : some ≡ true → Answered table i s
-    answered-all e = record { each = λ m. over-all table m i (p.over m) e }
+      pub passed-no : may_block i (get_or table.accesses n empty_access) ≡ false → Passed table i first (n + 1) s
+      passed-no e = record {
+        over = λ m.
+            let A = by_one table i m in
+            p.over m ∙ ap (later (A (get_or table.accesses first empty_access))) (sym (latest-same A i table.accesses n (within n few) e));
+        rising = p.rising;
+      }
 
-    pub answered-plain : some ≡ false → {r : Answers} → WithOne table (plain_access (at table i)) i first_answers r → Answered table i r
-    answered-plain e w = record {
-      each = λ m. w.each m ∙ rw (first-is m) (latest-one (least_under table (plain_access (at table i)) m i (limit_of (at table i)))) ∙ over-plain table m i (p.over m) e;
+      pub passed-again : may_block i (get_or table.accesses n empty_access) ≡ true → n ≡ first → Passed table i first (n + 1) s
+      passed-again e same = record {
+        over = λ m.
+            let A = by_one table i m in
+            let a = get_or table.accesses first empty_access in
+            let L = latest_over A i table.accesses n in
+            p.over m ∙ sym (later_again (A a) L)
+            ∙ ap (λ (k : ℕ). later (A a) (later L (A (get_or table.accesses k empty_access)))) (sym same)
+            ∙ ap (later (A a)) (sym (latest-with A i table.accesses n (within n few) e));
+        rising = p.rising;
+      }
+
+    pub answered-all : (first : ℕ) {s : Answers} → first < table.access_count → may_block i (get_or table.accesses first empty_access) ≡ true
+        → Passed table i first table.access_count s → Answered table i s
+    unfolding answer_of
+    answered-all first h e p = record {
+      each = λ m.
+          let q = among (by_one table i m) i table.accesses first e table.access_count h (omega (arith, accepted.listed)) in
+          p.over m ∙ q.0
+          ∙ ap (λ (l : List Access). latest_of (map (by_one table i m) l)) (or_some (plain_access (at table i)) (blocking i (accesses_of table)) q.1);
     }
+
+  pub answered-plain : blocking i (accesses_of table) ≡ [] → {r : Answers} → WithOne table (plain_access (at table i)) i first_answers r → Answered table i r
+  unfolding answer_of
+  answered-plain e w = record {
+    each = λ m.
+        w.each m ∙ rw (first-is m) (later_first (by_one table i m (plain_access (at table i))))
+        ∙ sym (latest-one (by_one table i m (plain_access (at table i))))
+        ∙ ap (λ (l : List Access). latest_of (map (by_one table i m) (or_else (plain_access (at table i)) l))) (sym e);
+  }
 
 -- ---- on from the task above
 

@@ -12,7 +12,7 @@ ghost use Rattle.table.specs.Tables.{at};
 ghost use Rattle.table.specs.Accepted.{AcceptedTable};
 ghost use Rattle.analysis.specs.Carried.{Ledger, Weighed, WeighedUnder};
 ghost use Rattle.analysis.specs.Analysis.{Blocks};
-ghost use Rattle.analysis.specs.Rows.{Answered, Rising, WithOne, row_told, plain_of, Left, no_row, row_of};
+ghost use Rattle.analysis.specs.Rows.{Answered, Rising, WithOne, row_told, plain_of, Left, no_row, row_of, OneBlocks};
 
 use crate::carried;
 use crate::carried::{Column, Terms};
@@ -76,13 +76,13 @@ fn search(
     ensures answer { result ≡ later so_far (least_of (demand_of own.0 (term_in terms.now) (length terms.now)) limit.0) }
     ensures started { Started own.0 (term_in terms.now) (length terms.now) counts.new }
 {
-    let Response::Within(_) = so_far else {
+    let Response::Within(known) = so_far else {
         return so_far;
     };
     let Response::Within(_) = cheaper else {
         return cheaper;
     };
-    so_far.later(response::least(own, terms, limit, counts))
+    so_far.later(response::least_beyond(own, terms, limit, known, counts))
 }
 
 // The answers so far with those while one access more blocks the task at i, by the terms of its row with that access. Each method goes on from a cheaper one:
@@ -175,6 +175,25 @@ fn under(
     by_row(table, i, access, &joined, so_far, &mut these)
 }
 
+// Where the longest access stands that may block the task at i, if any may.
+fn longest(table: &Table, i: usize) -> Option<usize>
+    requires { AcceptedTable table.now }
+    ensures { OneBlocks table.now i result }
+{
+    let mut found: Option<usize> = None;
+    let mut most: u64 = 0;
+    for n in 0..table.access_count {
+        let access = table.accesses[n];
+        if access.may_block(i) {
+            if most <= access.lasts.0 {
+                found = Some(n);
+                most = access.lasts.0;
+            }
+        }
+    }
+    found
+}
+
 // The answers for the task at i: the latest over the accesses that may block it, and where none may, those with its B. `counts` are left as by the search
 // without reloads and without an access.
 fn over_all(
@@ -199,19 +218,20 @@ fn over_all(
     let own = Ticks(task.work.0 + task.blocking.0);
     let limit = Ticks(task.deadline.0 - task.jitter.0);
     response::least(own, &terms.none[..i], limit, counts);
-    let mut blocked = false;
-    let mut latest = Answers::FIRST;
+    let Some(first) = longest(table, i) else {
+        return by_row(table, i, plain, terms, Answers::FIRST, counts);
+    };
+    let access = table.accesses[first];
+    let mut latest = under(table, i, ledger, terms, access, Answers::FIRST, counts);
     for n in 0..table.access_count {
         let access = table.accesses[n];
         if access.may_block(i) {
-            blocked = true;
-            latest = under(table, i, ledger, terms, access, latest, counts);
+            if n != first {
+                latest = under(table, i, ledger, terms, access, latest, counts);
+            }
         }
     }
-    if blocked {
-        return latest;
-    }
-    by_row(table, i, plain, terms, Answers::FIRST, counts)
+    latest
 }
 
 // Makes `counts`, as the search for the task above left them, what the one for the task at i starts from. It has the work of the task above in its demand,

@@ -27,7 +27,7 @@ use crate::scaling::scaled_work;
 use analysis::costs::{Charge, Single};
 use analysis::{Method, blocked_row, one_row};
 use cache::units::{Reloads, Ticks};
-use search::demand::{Response, Term};
+use search::demand::{Response, Term, demand_at};
 use search::response;
 use search::response::Count;
 use table::accesses::Access;
@@ -73,18 +73,6 @@ fn demand_by_row(table: &Table, i: usize, row: &[Charge; 32], own: u64, k: u64, 
     let mut demand = own;
     for j in 0..i {
         demand += scaled_term(table, j, row[j].count(), k).work(r);
-    }
-    demand
-}
-
-// The demand at `r`.
-fn demand_at(own: u64, terms: &[Term], r: u64) -> u64
-    requires { Handed own terms.now r }
-    ensures { result ≡ demand_of own (term_in terms.now) (length terms.now) r }
-{
-    let mut demand = own;
-    for term in terms {
-        demand += term.work(r);
     }
     demand
 }

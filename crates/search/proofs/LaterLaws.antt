@@ -4,8 +4,10 @@ use Rattle.std.proofs.Math.Decide.{dec_le}
 use Rattle.std.proofs.lemmas.List.Sums.{fold-append}
 use Rattle.search.specs.declared.demand.Response.{Response}
 use Rattle.search.specs.declared.demand.Response.TheVariants.{Within, Unschedulable}
-use Rattle.search.specs.Least.{NoLater, later, latest_of, IsLatest}
+use Rattle.search.specs.Least.{least_of, NoLater, later, latest_of, IsLatest}
 use Rattle.search.proofs.SoonerLaws.{no-later-trans}
+use Rattle.cache.specs.declared.units.Ticks.{Ticks}
+use Rattle.search.proofs.LeastLaws.{Monotone, answer-under}
 
 pub later-assoc : (a b c : Response) → later (later a b) c ≡ later a (later b c)
 later-assoc (Within x) (Within y) (Within z) = ap (λ (n : ℕ). Within (record { 0 = n })) (omega arith)
@@ -37,9 +39,34 @@ later-mono Unschedulable b (Within z) (Within w) p q = absurd p
 -- ---- of some answers
 
 -- no answer is sooner than 0
-later_first : (b : Response) → later (Within (record { 0 = 0 })) b ≡ b
+pub later_first : (b : Response) → later (Within (record { 0 = 0 })) b ≡ b
 later_first (Within y) = ap (λ (n : ℕ). Within (record { 0 = n })) (omega arith)
 later_first Unschedulable = refl
+
+-- which of two comes first does not matter, nor that one comes again
+pub later_swap : (a b : Response) → later a b ≡ later b a
+later_swap (Within x) (Within y) = ap (λ (n : ℕ). Within (record { 0 = n })) (omega arith)
+later_swap (Within x) Unschedulable = refl
+later_swap Unschedulable (Within y) = refl
+later_swap Unschedulable Unschedulable = refl
+
+later_self : (a : Response) → later a a ≡ a
+later_self (Within x) = ap (λ (n : ℕ). Within (record { 0 = n })) (omega arith)
+later_self Unschedulable = refl
+
+pub later_again : (a b : Response) → later a (later b a) ≡ later a b
+later_again a b =
+    ap (later a) (later_swap b a) ∙ sym (later-assoc a a b) ∙ ap (λ (x : Response). later x b) (later_self a)
+
+pub later_last : (a : Response) → later a (Within (record { 0 = 0 })) ≡ a
+later_last a = later_swap a (Within (record { 0 = 0 })) ∙ later_first a
+
+-- where a time covers its demand the least solution is no later
+pub later-covered : (f : ℕ → ℕ) → Monotone f → (limit : ℕ) (known : Ticks) → known.0 ≤ limit → f known.0 ≤ known.0
+    → later (Within known) (Within known) ≡ later (Within known) (least_of f limit)
+later-covered f mono limit known h l =
+    let w = answer-under f mono limit known.0 h l in
+    rw w.1 (ap (λ (n : ℕ). Within (record { 0 = n })) (omega (arith, w.2)))
 
 pub latest-one : (r : Response) → latest_of (r ∷ []) ≡ r
 latest-one r = later_first r
@@ -55,10 +82,6 @@ later-fold a b (r ∷ rs) = ap (λ (x : Response). fold later x rs) (later-assoc
 pub latest-front : (r : Response) (rs : List Response) → latest_of (r ∷ rs) ≡ later r (latest_of rs)
 latest-front r rs =
     ap (λ (x : Response). fold later x rs) (later_first r ∙ sym (later_last r)) ∙ later-fold r (Within (record { 0 = 0 })) rs
-  where
-    later_last : (a : Response) → later a (Within (record { 0 = 0 })) ≡ a
-    later_last (Within x) = ap (λ (n : ℕ). Within (record { 0 = n })) (omega arith)
-    later_last Unschedulable = refl
 
 -- ---- what the latest means
 

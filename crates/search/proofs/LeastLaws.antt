@@ -6,7 +6,7 @@ use Rattle.std.proofs.lemmas.Bool.{eqb-false}
 use Rattle.cache.specs.declared.units.Ticks.{Ticks}
 use Rattle.search.specs.declared.demand.Response.{Response}
 use Rattle.search.specs.declared.demand.Response.TheVariants.{Within, Unschedulable}
-use Rattle.search.specs.Least.{first_of, least_of, LeastWithin, AnswerInRange, Reached, NoLater}
+use Rattle.search.specs.Least.{first_of, least_of, end_of, LeastWithin, AnswerInRange, Reached, NoLater}
 
 abbrev pub Monotone : (ℕ → ℕ) → Type 0
 Monotone f = (a b : ℕ) → a ≤ b → f a ≤ f b
@@ -102,6 +102,14 @@ module _ (f : ℕ → ℕ) (mono : Monotone f) where
       at l =
           let w = solution-under r (omega arith) in
           let e : w.0 ≡ r = le_antisymm w.1 (p w.0 w.2) in omega (arith, ap f e)
+
+  -- no solution is below the end of a search
+  pub end-reached : (limit : ℕ) (a : Response) → a ≡ least_of f limit → (end_of a limit ≤ limit) × Reached f (end_of a limit)
+  unfolding LeastWithin
+  end-reached limit (Within R) e = let p = answer-reached f limit R e in (p.0, p.1)
+  end-reached limit Unschedulable e =
+      let p = subst (LeastWithin f limit) (sym e) (least_of-least f limit) in
+      (omega arith, reached-below limit (λ s q. elim (dec_le s limit) [ yes l ↦ absurd (p s q l) | no l ↦ (let m = lt_of_not-le l in omega arith) ]))
 
   -- the least solution is the least number that covers its demand
   pub least-covers : (limit : ℕ) (R : Ticks) → LeastWithin f limit (Within R) → (r : ℕ) → f r ≤ r → R.0 ≤ r

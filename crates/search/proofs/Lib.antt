@@ -9,4 +9,5 @@ pub mod ShareLaws
 pub mod ClassLaws
 pub mod RoundLaws
 pub mod HastenLaws
+pub mod LeapLaws
 pub mod CountLaws

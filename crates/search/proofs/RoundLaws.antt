@@ -240,6 +240,15 @@ module _ (t : ℕ → Term) (n : ℕ) (classes : List ℕ) (round ticks count : 
       others = λ i h. w₄.others i (inl (omega arith)) ∙ w₃.others i (inl (omega arith)) ∙ w₂.others i (inl (omega arith)) ∙ w₁.others i (inl (omega arith));
     }
 
+-- a window of a round stands among the round's places
+pub place-within : (round ticks : ℕ) → 1 ≤ ticks → ticks ≤ 16384 → (step : ℕ) → IsStep step → (s : ℕ)
+    → place_of round step (s % ticks / (8 * step)) < 4096 * (round + 1)
+place-within round ticks some short = by-step (λ step. (s : ℕ) → place_of round step (s % ticks / (8 * step)) < 4096 * (round + 1))
+    (λ s. omega (arith, mod-lt s some, short))
+    (λ s. omega (arith, mod-lt s some, short))
+    (λ s. omega (arith, mod-lt s some, short))
+    (λ s. omega (arith, mod-lt s some, short))
+
 -- the windows of a round stand where only those of later rounds are made
 pub windowed-stands : {t : ℕ → Term} {n : ℕ} {classes : List ℕ} {round ticks : ℕ} {before after : List ℕ} → ((i : ℕ) → i < 4096 * (round + 1) → get_or after i 0 ≡ get_or before i 0)
     → Windowed t n classes round ticks before → Windowed t n classes round ticks after
@@ -251,8 +260,4 @@ windowed-stands {round = round} {ticks = ticks} same w = record {
 }
   where
     within : (step : ℕ) → IsStep step → (s : ℕ) → place_of round step (s % ticks / (8 * step)) < 4096 * (round + 1)
-    within = by-step (λ step. (s : ℕ) → place_of round step (s % ticks / (8 * step)) < 4096 * (round + 1))
-        (λ s. omega (arith, mod-lt s w.some, w.short))
-        (λ s. omega (arith, mod-lt s w.some, w.short))
-        (λ s. omega (arith, mod-lt s w.some, w.short))
-        (λ s. omega (arith, mod-lt s w.some, w.short))
+    within = place-within round ticks w.some w.short

@@ -28,6 +28,11 @@ pub record Reached (f : ℕ → ℕ) (r : ℕ) : Type 0 where
   pub below : (s : ℕ) → s ≡ f s → r ≤ s
   pub rises : r ≤ f r
 
+-- up to when a search has come: to its answer, or where it has none to the limit
+abbrev pub end_of : Response → ℕ → ℕ
+end_of (Within t) limit = t.0
+end_of Unschedulable limit = limit
+
 -- the order of answers: an answer that is no later than another. No answer at all is the latest
 unfoldable pub NoLater : Response → Response → Type 0
 NoLater (Within a) (Within b) = a.0 ≤ b.0

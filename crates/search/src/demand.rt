@@ -1,9 +1,9 @@
 // The demand of a task, and the smallest time that equals it. specs/Demand.antt says what a demand is, specs/Terms.antt how its terms are
 // lent, and specs/Least.antt what the smallest solution is.
 
-ghost use Rattle.std.specs.Prelude.{◌≡◌, ◌≤◌};
-ghost use Rattle.search.specs.Demand.{work_of};
-ghost use Rattle.search.specs.Terms.{InRange};
+ghost use Rattle.std.specs.Prelude.{◌≡◌, ◌≤◌, length};
+ghost use Rattle.search.specs.Demand.{work_of, demand_of};
+ghost use Rattle.search.specs.Terms.{term_in, InRange, Handed};
 ghost use Rattle.search.specs.Least.{sooner, later};
 
 use cache::units::Ticks;
@@ -31,6 +31,18 @@ impl Term {
     {
         (r + self.jitter.0 + (self.period.0 - 1)) / self.period.0 * self.weight.0
     }
+}
+
+// The demand of a task with `own` ticks of work under these terms at `r`.
+pub fn demand_at(own: u64, terms: &[Term], r: u64) -> u64
+    requires { Handed own terms.now r }
+    ensures { result ≡ demand_of own (term_in terms.now) (length terms.now) r }
+{
+    let mut demand = own;
+    for term in terms {
+        demand += term.work(r);
+    }
+    demand
 }
 
 // The answer for one task: its response time, or that it has none within its limit.

@@ -4,10 +4,11 @@ ghost use Rattle.std.specs.Prelude.{◌≡◌, true, ℕ, ◌≤◌, ◌<◌, le
 ghost use Rattle.search.specs.Positions.{front};
 ghost use Rattle.search.specs.Demand.{demand_of};
 ghost use Rattle.search.specs.Terms.{term_in, InRange, Handed};
-ghost use Rattle.search.specs.Least.{least_of};
+ghost use Rattle.search.specs.Least.{least_of, end_of, later};
+ghost use Rattle.search.specs.declared.demand.Response.TheVariants.{Within};
 ghost use Rattle.search.specs.Counts.{count, count_in, once, missing_of, raised_to, asked_of, Kept, Raised, Started};
 
-use crate::demand::{Response, Term};
+use crate::demand::{Response, Term, demand_at};
 use crate::hasten;
 use cache::units::Ticks;
 
@@ -119,27 +120,55 @@ pub fn firsts(terms: &[Term]) -> [Count; 32]
     counts
 }
 
-// The end of a search that is slow: hastened, from a time on that no solution is below, and the counts raised to its answer, so that they can be gone on from.
-fn finish(own: u64, terms: &[Term], limit: u64, start: u64, counts: &mut [Count]) -> Response
+// Up to when a search has come: to its answer, or where it has none to the limit.
+fn end_of(found: Response, limit: u64) -> u64
+    ensures { result ≡ end_of found limit }
+{
+    match found {
+        Response::Within(time) => time.0,
+        Response::Unschedulable => limit,
+    }
+}
+
+// The end of a search that is slow: hastened, from a time on that no solution is below, and the counts raised up to when it has come, so that they can be gone on
+// from. Where the demand at the known time is no more than it, the smallest solution is no later.
+fn finish(
+    own: u64,
+    terms: &[Term],
+    limit: u64,
+    known: Ticks,
+    start: u64,
+    counts: &mut [Count],
+) -> Response
     requires { Handed own terms.now limit × Started own (term_in terms.now) (length terms.now) counts.old × (start ≡ asked_of own (term_in terms.now) counts.old (length terms.now)) }
-    ensures result_value { result ≡ least_of (demand_of own (term_in terms.now) (length terms.now)) limit }
+    ensures result_value { later (Within known) result ≡ later (Within known) (least_of (demand_of own (term_in terms.now) (length terms.now)) limit) }
     ensures started { Started own (term_in terms.now) (length terms.now) counts.new }
 {
     if limit < start {
         return Response::Unschedulable;
     }
-    let found = hasten::hasten(own, terms, limit, start);
-    if let Response::Within(time) = found {
-        advance(own, terms, time.0, counts);
+    if known.0 <= limit {
+        if demand_at(own, terms, known.0) <= known.0 {
+            return Response::Within(known);
+        }
     }
+    let found = hasten::hasten(own, terms, limit, start);
+    advance(own, terms, end_of(found, limit), counts);
     found
 }
 
-// The smallest time up to `limit` that equals its demand, for a task with `own` ticks of work under these terms. `counts` has activations of theirs to start
-// from, none above those of a solution, and is left so. Each turn tries the time that the counts ask for.
-pub fn least(own: Ticks, terms: &[Term], limit: Ticks, counts: &mut [Count]) -> Response
+// The smallest time up to `limit` that equals its demand, for a task with `own` ticks of work under these terms, unless it is no later than the known time, which
+// may be answered in its place. `counts` has activations of theirs to start from, none above those of a solution, and is left so. Each turn tries the time that
+// the counts ask for.
+pub fn least_beyond(
+    own: Ticks,
+    terms: &[Term],
+    limit: Ticks,
+    known: Ticks,
+    counts: &mut [Count],
+) -> Response
     requires { Handed own.0 terms.now limit.0 × Started own.0 (term_in terms.now) (length terms.now) counts.old }
-    ensures result_value { result ≡ least_of (demand_of own.0 (term_in terms.now) (length terms.now)) limit.0 }
+    ensures result_value { later (Within known) result ≡ later (Within known) (least_of (demand_of own.0 (term_in terms.now) (length terms.now)) limit.0) }
     ensures started { Started own.0 (term_in terms.now) (length terms.now) counts.new }
 {
     let n = terms.len();
@@ -153,5 +182,15 @@ pub fn least(own: Ticks, terms: &[Term], limit: Ticks, counts: &mut [Count]) -> 
         }
         time = advance(own.0, terms, time, counts);
     }
-    finish(own.0, terms, limit.0, time, counts)
+    finish(own.0, terms, limit.0, known, time, counts)
+}
+
+// The smallest time up to `limit` that equals its demand, for a task with `own` ticks of work under these terms. `counts` has activations of theirs to start
+// from, none above those of a solution, and is left so.
+pub fn least(own: Ticks, terms: &[Term], limit: Ticks, counts: &mut [Count]) -> Response
+    requires { Handed own.0 terms.now limit.0 × Started own.0 (term_in terms.now) (length terms.now) counts.old }
+    ensures result_value { result ≡ least_of (demand_of own.0 (term_in terms.now) (length terms.now)) limit.0 }
+    ensures started { Started own.0 (term_in terms.now) (length terms.now) counts.new }
+{
+    least_beyond(own, terms, limit, Ticks(0), counts)
 }

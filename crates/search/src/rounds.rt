@@ -7,7 +7,7 @@ ghost use Rattle.search.specs.Terms.{term_in, Handed};
 ghost use Rattle.search.specs.Shares.{shares_of};
 ghost use Rattle.search.specs.Grouping.{ShortTaken};
 ghost use Rattle.search.specs.Classes.{shares_over, taken};
-ghost use Rattle.search.specs.Rounds.{Near, Lacking, LeastOver, Added, LacksIn, Blocked, IsStep, WindowsIn, Tabled, RoundsOf};
+ghost use Rattle.search.specs.Rounds.{Near, Lacking, LeastOver, Added, LacksIn, Blocked, IsStep, WindowsIn, Tabled, RoundsOf, window_at};
 
 use crate::demand::Term;
 use crate::grouping::COUNTED;
@@ -105,7 +105,7 @@ fn lacking(
 }
 
 // The smaller of two numbers.
-fn lesser(a: u64, b: u64) -> u64
+pub fn lesser(a: u64, b: u64) -> u64
     ensures { (result ≤ a) × (result ≤ b) }
 {
     if a < b { a } else { b }
@@ -173,6 +173,15 @@ fn tabulate(
     windows(&blocks, round, ticks, 16, entries);
     windows(&blocks, round, ticks, 64, entries);
     least_of(&blocks, 0, count)
+}
+
+// The window of a round in which a time is.
+pub fn window_at(entries: &[u64; WINDOWS], round: usize, ticks: u64, step: usize, at: u64) -> u64
+    requires { (length entries.now ≡ 32768) × (round < 8) × (1 ≤ ticks) × (ticks ≤ 16384) × IsStep step }
+    ensures { result ≡ window_at entries.now round ticks step at }
+{
+    let k = (at % ticks) as usize / (8 * step);
+    entries[SLOT * round + 2048 / step + k]
 }
 
 // Rounds for some terms, and their windows.

@@ -1,6 +1,7 @@
 // Shares of the processor. specs/Shares.antt says what a share is.
 
 ghost use Rattle.std.specs.Prelude.{◌≡◌, ◌-◌, length};
+ghost use Rattle.search.specs.Positions.{front};
 ghost use Rattle.search.specs.Terms.{term_in, InRange, Handed};
 ghost use Rattle.search.specs.Shares.{share_of, shares_of};
 
@@ -27,4 +28,16 @@ pub fn left_by(terms: &[Term]) -> u64
         left = left.saturating_sub(share(*term));
     }
     left
+}
+
+// The shares of the terms, listed.
+pub fn listed(terms: &[Term]) -> [u64; 32]
+    requires { Handed 1 terms.now 0 }
+    ensures { result ≡ front 0 (λ j. share_of (term_in terms.now j)) (length terms.now) }
+{
+    let mut shares = [0u64; 32];
+    for (i, term) in terms.iter().enumerate() {
+        shares[i] = share(*term);
+    }
+    shares
 }

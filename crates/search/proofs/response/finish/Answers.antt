@@ -1,13 +1,16 @@
 -- `response::finish` meets its contract: the counts are raised to a time that no solution is below. Assumes nothing.
-use Rattle.std.proofs.Common.{arith}
-use Rattle.search.proofs.LeastLaws.{past, answer-reached}
-use Rattle.search.proofs.DemandLaws.{handed-for}
+use Rattle.std.proofs.Common.{ap, arith}
+use Rattle.search.specs.declared.demand.Response.TheVariants.{Within}
+use Rattle.search.specs.Least.{later}
+use Rattle.search.proofs.LeastLaws.{past, end-reached}
+use Rattle.search.proofs.DemandLaws.{handed-for, demand-mono}
+use Rattle.search.proofs.LaterLaws.{later-covered}
 use Rattle.search.proofs.CountLaws.{asked-reached, raised-started}
 use Rattle.search.proofs.response.finish.Goals as goal
 
 pub returns-then-limit-start-clause-result_value : goal.returns-then-limit-start-clause-result_value
 returns-then-limit-start-clause-result_value c =
-    let p = c.requires in past _ _ _ (asked-reached p.0 p.1) (omega arith)
+    let p = c.requires in ap (later (Within c.args.known)) (past _ _ _ (asked-reached p.0 p.1) (omega arith))
 
 pub hasten-found-requires : goal.hasten-found-requires
 hasten-found-requires c = let p = c.requires in (p.0, omega arith, rw p.2 (asked-reached p.0 p.1))
@@ -15,11 +18,18 @@ hasten-found-requires c = let p = c.requires in (p.0, omega arith, rw p.2 (asked
 pub advance-requires : goal.advance-requires
 advance-requires c =
     let p = c.requires in
-    let at = answer-reached _ _ _ c.in-Within.ensures in
-    (handed-for p.0 p.0.own-least p.0.own-most (omega (arith, at.0, p.0.time)), p.1.kept)
+    let at = end-reached _ (demand-mono _ _ _ p.0.ranged) _ _ c.hasten-found.ensures in
+    (handed-for p.0 p.0.own-least p.0.own-most (omega (arith, at.0, p.0.time, c.end_of.ensures)), p.1.kept)
 
-pub returns-in-Within-clause-started : goal.returns-in-Within-clause-started
-returns-in-Within-clause-started c =
+pub returns-clause-started : goal.returns-clause-started
+returns-clause-started c =
     let p = c.requires in
-    let at = answer-reached _ _ _ c.in-Within.ensures in
-    raised-started p.0 p.1 _ _ (omega (arith, at.0, p.0.time)) at.1 c.advance.ensures.raised
+    let at = end-reached _ (demand-mono _ _ _ p.0.ranged) _ _ c.hasten-found.ensures in
+    raised-started p.0 p.1 _ _ (omega (arith, at.0, p.0.time, c.end_of.ensures)) (rw c.end_of.ensures at.1) c.advance.ensures.raised
+
+pub returns-clause-result_value : goal.returns-clause-result_value
+returns-clause-result_value c = ap (later (Within c.args.known)) c.hasten-found.ensures
+
+pub returns-then-demand_at-known-clause-result_value : goal.returns-then-demand_at-known-clause-result_value
+returns-then-demand_at-known-clause-result_value c =
+    later-covered _ (demand-mono _ _ _ c.requires.0.ranged) _ _ (omega arith) (rw c.demand_at.ensures at c.if-demand_at-known.true)
