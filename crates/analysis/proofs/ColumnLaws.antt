@@ -104,9 +104,6 @@ next-small c r ucb k s n = record {
 
 -- ---- inside a row
 
-pub passing-none : {table : Table} {i : ℕ} {l : List Column} → Ledger table i l → Passing table i 0 l
-passing-none p = record { long = p.long; past = λ k h. absurd (omega arith); ahead = λ k h b. p.columns k b }
-
 pub passing-next : (table : Table) (l : List Column) (i j : ℕ) (r : Column) → j < 32 → Passing table i j l → ColumnOf table j (i + 1) r
     → Passing table i (j + 1) (set l j r)
 passing-next table l i j r few p c = record {

@@ -53,9 +53,6 @@ module _ (U E : ℕ → Set) (i j : ℕ) where
   pub reloads-few : (m : Single) → reloads_of U E m i j ≤ 256
   reloads-few m = rw (← reloads-none U E 0 i j m) (with-few ∅ 0 m)
 
-  pub reloads-most : (m : Single) → reloads_of U E m i j ≤ 2048
-  reloads-most m = omega (arith, reloads-few m)
-
 -- at the ceiling of an access and below it nothing is added
 pub charge-past : (table : Table) (a : Access) (m : Single) (i j : ℕ) → a.ceiling ≤ j → charge_under table a m i j ≡ charge_at table m i j
 charge-past table a m i j past =

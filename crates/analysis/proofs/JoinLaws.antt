@@ -24,13 +24,6 @@ module _ {table : Table} {a : Access} {m : Single} {i : ℕ} {row : List Charge}
     rest = λ k l. p.each k zero-le (omega arith);
   }
 
-  pub joined-next : (from j : ℕ) → j < 32 → from ≡ j + 1 → (g : Charge) → g ≡ charge_under table a m i j → Joined table a m i from row
-      → Joined table a m i j (set row j g)
-  joined-next from j few next g here p = record {
-    under = tells-front i from j few next g here p.under;
-    rest = λ k l. get_or-set_other row j k g (no_victim 0) (λ z. omega arith) ∙ p.rest k (omega arith);
-  }
-
 -- the counts of such a row are few, and make the terms
 module _ (table : Table) (a : Access) (m : Single) (i : ℕ) {row : List Charge} (p : ChargedUnder table a m i 0 row) where
   pub row-few : FewReloads i row

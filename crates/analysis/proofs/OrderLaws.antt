@@ -88,12 +88,6 @@ module _ (U E : ℕ → Set) (X : Set) (n i j : ℕ) where
       (largest-by (λ k. k) (λ k. omega arith) i j (λ k. size (U k ∩ union_of E (hp (j + 1)))) (λ k. size (U k)) (λ k l. size-inter-left _ _))
       (size-inter-left _ _)
 
--- one member more never makes a count smaller
-pub with-more : (U E : ℕ → Set) (X : Set) (n i j : ℕ) (m : Single) → j < i → reloads_of U E m i j ≤ reloads_with U E X n m i j
-with-more U E X n i j m above =
-    rw (← reloads-none U E n i j m)
-    (with-by (λ k. k) (λ k. omega arith) U E U E i j above (λ k l s h. h) (λ k l s h. h) ∅ X (empty-least X) n n m)
-
 -- ---- the terms of accepted tables, while an access blocks
 
 pub term-ranged : (table : Table) (a : Access) (m : Single) (i j : ℕ) → AcceptedTable table → j < table.count → InRange (term_under table a m i j)

@@ -14,18 +14,6 @@ use Rattle.analysis.proofs.CostLaws.{charge-past}
 use Rattle.analysis.specs.declared.carried.Terms.{Terms}
 use Rattle.analysis.specs.Carried.{terms_for, Long, TermPut, HasTerms, WeighedUnder}
 
-pub put-each : {j : ℕ} {v : Single → Term} {x y : Terms} → y.none ≡ set x.none j (v None) → y.ecb_only ≡ set x.ecb_only j (v EcbOnly)
-    → y.ucb_only ≡ set x.ucb_only j (v UcbOnly) → y.ucb_union ≡ set x.ucb_union j (v UcbUnion) → y.ecb_union ≡ set x.ecb_union j (v EcbUnion)
-    → TermPut j v x y
-put-each {j} {v} {x} {y} a b c d e = record { each = go }
-  where
-    go : (m : Single) → terms_for m y ≡ set (terms_for m x) j (v m)
-    go None = a
-    go EcbOnly = b
-    go UcbOnly = c
-    go UcbUnion = d
-    go EcbUnion = e
-
 module _ {j : ℕ} {v : Single → Term} {x y : Terms} (p : TermPut j v x y) where
   pub put-long : Long x → Long y
   put-long long = record { each = λ m. rw (p.each m) (length-set (terms_for m x) j (v m) ∙ long.each m) }

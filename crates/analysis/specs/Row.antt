@@ -6,6 +6,7 @@ use Rattle.search.specs.Positions.{hp}
 use Rattle.table.specs.Tasks.{no_sets}
 use Rattle.table.specs.declared.Table.{Table}
 use Rattle.analysis.specs.declared.costs.Single.{Single}
+use Rattle.analysis.specs.declared.costs.Single.TheVariants.{None, EcbOnly, UcbOnly, UcbUnion, EcbUnion}
 use Rattle.analysis.specs.declared.costs.Charge.{Charge}
 use Rattle.analysis.specs.Gather.{union_of}
 use Rattle.analysis.specs.Costs.{no_victim, ecb_of, charge_at}
@@ -22,6 +23,14 @@ pub record Tells (G : ℕ → Charge) (i from : ℕ) (row : List Charge) : Type 
 -- those of a table
 abbrev pub Charged : Table → Single → ℕ → ℕ → List Charge → Type 0
 Charged table m i = Tells (charge_at table m i) i
+
+-- a row that an access may join: under UCB-Union, where the unions are gathered with the access, only its length is known
+abbrev pub Begun : Table → Single → ℕ → List Charge → Type 0
+Begun table None i row = Charged table None i 0 row
+Begun table EcbOnly i row = Charged table EcbOnly i 0 row
+Begun table UcbOnly i row = Charged table UcbOnly i 0 row
+Begun table UcbUnion i row = length row ≡ 32
+Begun table EcbUnion i row = Charged table EcbUnion i 0 row
 
 -- a list of sets that has, at each position above i, the union of the ECBs down to it
 pub record Evictors (table : Table) (i : ℕ) (unions : List CacheSet) : Type 0 where

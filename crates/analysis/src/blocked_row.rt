@@ -1,7 +1,7 @@
 // What the tasks above one task are charged and ask for while an access blocks it. The row without the access is there already: only what the access's UCB
 // adds to it is worked out, for the tasks above its ceiling. specs/BlockedRow.antt says what a row then tells.
 
-ghost use Rattle.std.specs.Prelude.{◌≡◌, ◌<◌, ◌≤◌};
+ghost use Rattle.std.specs.Prelude.{◌≡◌, ◌<◌, ◌≤◌, length};
 ghost use Rattle.cache.specs.Sets.{◌∪◌};
 ghost use Rattle.cache.specs.Words.{members};
 ghost use Rattle.table.specs.Accesses.{added_by};
@@ -9,7 +9,7 @@ ghost use Rattle.search.specs.Positions.{front};
 ghost use Rattle.search.specs.Demand.{term_of};
 ghost use Rattle.table.specs.Accepted.{AcceptedTable};
 ghost use Rattle.analysis.specs.declared.costs.Single.TheVariants.{UcbOnly, UcbUnion, EcbUnion};
-ghost use Rattle.analysis.specs.Row.{Charged};
+ghost use Rattle.analysis.specs.Row.{Charged, Begun};
 ghost use Rattle.analysis.specs.BlockedRow.{ChargedUnder, FewReloads, term_by};
 
 use crate::costs::{Charge, Hit, Single};
@@ -44,9 +44,9 @@ fn with_access(sets: CacheSet, access: Access, j: usize) -> CacheSet
     sets
 }
 
-// UCB-Union: the union of the UCBs is carried up again, and the access's is put to it above its ceiling.
+// UCB-Union: the union of the UCBs is carried up, and the access's is put to it above its ceiling.
 fn ucb_union(table: &Table, i: usize, access: Access, row: &mut [Charge; 32])
-    requires { AcceptedTable table.now × (i < table.now.count) × Charged table.now UcbUnion i 0 row.old }
+    requires { AcceptedTable table.now × (i < table.now.count) × (length row.old ≡ 32) }
     ensures { ChargedUnder table.now access UcbUnion i 0 row.new }
 {
     let mut all = CacheSet::EMPTY;
@@ -75,7 +75,7 @@ fn ecb_union(table: &Table, i: usize, access: Access, row: &mut [Charge; 32])
 
 // Makes a row of charges without the access one with it. No reloads and ECB-Only do not depend on who is affected.
 pub fn join(table: &Table, method: Single, i: usize, access: Access, row: &mut [Charge; 32])
-    requires { (access.ceiling ≤ i) × AcceptedTable table.now × (i < table.now.count) × Charged table.now method i 0 row.old }
+    requires { (access.ceiling ≤ i) × AcceptedTable table.now × (i < table.now.count) × Begun table.now method i row.old }
     ensures { ChargedUnder table.now access method i 0 row.new }
 {
     match method {

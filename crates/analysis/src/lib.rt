@@ -21,7 +21,7 @@ ghost use Rattle.search.specs.Least.{least_of};
 ghost use Rattle.table.specs.Accepted.{AcceptedTable};
 ghost use Rattle.table.specs.Tables.{at};
 ghost use Rattle.table.specs.Tasks.{limit_of};
-ghost use Rattle.analysis.specs.Row.{Charged};
+ghost use Rattle.analysis.specs.Row.{Begun};
 ghost use Rattle.analysis.specs.BlockedRow.{ChargedUnder};
 ghost use Rattle.analysis.specs.Analysis.{least_under, answer_of, response_of, method_of, Blocks};
 
@@ -91,7 +91,7 @@ pub fn least_under(
     row: &[Charge; 32],
     access: Access,
 ) -> Response
-    requires { AcceptedTable table.now × (i < table.now.count) × (limit.0 ≤ 250000000) × Charged table.now method i 0 row.now × Blocks i access }
+    requires { AcceptedTable table.now × (i < table.now.count) × (limit.0 ≤ 250000000) × Begun table.now method i row.now × Blocks i access }
     ensures { result ≡ least_under table.now access method i limit.0 }
 {
     match method {

@@ -3,7 +3,7 @@
 
 ghost use Rattle.std.specs.Prelude.{◌≡◌, ◌<◌};
 ghost use Rattle.table.specs.Accepted.{AcceptedTable};
-ghost use Rattle.analysis.specs.Row.{Charged};
+ghost use Rattle.analysis.specs.Row.{Begun};
 ghost use Rattle.analysis.specs.Analysis.{least_under, Blocks};
 ghost use Rattle.analysis.specs.Needs.{is_sooner, need_with, larger_need, larger_of_some, smaller_of, needed_of, need_of};
 
@@ -74,7 +74,7 @@ impl Need {
 
 // What the task at i needs under a method while an access blocks it. `row` has the charges of the method without the access.
 fn need_while(table: &Table, method: Single, i: usize, row: &[Charge; 32], access: Access) -> Need
-    requires { AcceptedTable table.now × (i < table.now.count) × Charged table.now method i 0 row.now × Blocks i access }
+    requires { AcceptedTable table.now × (i < table.now.count) × Begun table.now method i row.now × Blocks i access }
     ensures { result ≡ need_with (λ a. least_under table.now a method i 250000000) method access }
 {
     Need {

@@ -5,8 +5,8 @@ mod shared;
 
 ghost use Rattle.std.specs.Prelude.{◌≡◌, ◌<◌, length};
 ghost use Rattle.table.specs.Accepted.{AcceptedTable};
-ghost use Rattle.analysis.specs.declared.costs.Single.TheVariants.{EcbOnly, UcbOnly, UcbUnion, EcbUnion};
-ghost use Rattle.analysis.specs.Row.{Charged, Evictors};
+ghost use Rattle.analysis.specs.declared.costs.Single.TheVariants.{EcbOnly, UcbOnly, EcbUnion};
+ghost use Rattle.analysis.specs.Row.{Charged, Begun, Evictors};
 
 use crate::costs::{Charge, Hit, Single};
 use cache::sets::CacheSet;
@@ -39,18 +39,6 @@ fn ucb_only(table: &Table, i: usize, row: &mut [Charge; 32])
     }
 }
 
-// UCB-Union: the union of the UCBs is carried up.
-fn ucb_union(table: &Table, i: usize, row: &mut [Charge; 32])
-    requires { AcceptedTable table.now × (i < table.now.count) × (length row.old ≡ 32) }
-    ensures { Charged table.now UcbUnion i 0 row.new }
-{
-    let mut all = CacheSet::EMPTY;
-    for j in (0..i).rev() {
-        all = table.task(j + 1).ucb.union(all);
-        row[j] = Charge::NoVictim(all.intersection(table.task(j).ecb).size());
-    }
-}
-
 // The unions of the ECBs down to each of the tasks above i.
 pub fn evictors(table: &Table, i: usize) -> [CacheSet; 32]
     requires { AcceptedTable table.now × (i < table.now.count) }
@@ -80,17 +68,17 @@ fn ecb_union(table: &Table, i: usize, row: &mut [Charge; 32])
     }
 }
 
-// What each task above i is charged for reloads at an activation.
+// What each task above i is charged for reloads at an activation, before an access joins. Under UCB-Union the row is left empty: it is gathered with the access.
 pub fn charged(table: &Table, method: Single, i: usize) -> [Charge; 32]
     requires { AcceptedTable table.now × (i < table.now.count) }
-    ensures { Charged table.now method i 0 result }
+    ensures { Begun table.now method i result }
 {
     let mut row = [Charge::NOTHING; 32];
     match method {
         Single::None => {}
+        Single::UcbUnion => {}
         Single::EcbOnly => ecb_only(table, i, &mut row),
         Single::UcbOnly => ucb_only(table, i, &mut row),
-        Single::UcbUnion => ucb_union(table, i, &mut row),
         Single::EcbUnion => ecb_union(table, i, &mut row),
     }
     row

@@ -15,7 +15,7 @@ ghost use Rattle.search.specs.Counts.{Started};
 ghost use Rattle.table_text.specs.Readable.{Readable};
 ghost use Rattle.table.specs.Accepted.{AcceptedTable};
 ghost use Rattle.analysis.specs.Costs.{term_with};
-ghost use Rattle.analysis.specs.Row.{Charged};
+ghost use Rattle.analysis.specs.Row.{Begun};
 ghost use Rattle.analysis.specs.BlockedRow.{ChargedUnder, FewReloads, term_by};
 ghost use Rattle.analysis.specs.Analysis.{answer_of, response_of, Blocks};
 ghost use Rattle.report.specs.Verdicts.{has_response};
@@ -149,7 +149,7 @@ fn under(
     access: Access,
     most: u64,
 ) -> u64
-    requires { Stretches table.now most × (i < table.now.count) × Charged table.now method i 0 row.now × Blocks i access }
+    requires { Stretches table.now most × (i < table.now.count) × Begun table.now method i row.now × Blocks i access }
     ensures { Bounds (answers_under table.now access method i) most result }
 {
     match method {

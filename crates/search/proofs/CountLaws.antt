@@ -191,13 +191,6 @@ module _ {own limit : ℕ} {terms : List Term} (handed : Handed own terms limit)
             (rw is (omega (arith, at.below s e, ceil-mul (s + t.jitter.0) t.period.0 (handed.ranged j l).period))) in
             omega arith
 
--- a task without terms has nothing to count
-pub started_none : (own : ℕ) (t : ℕ → Term) (counts : List Count) → Started own t 0 counts
-started_none own t counts = record {
-  kept = record { long = zero-le; soon = λ j l. absurd (omega arith); holds = λ j l. absurd (omega arith) };
-  under = λ s e j l. absurd (omega arith);
-}
-
 -- only the first n terms matter
 pub started-same : (own n : ℕ) (t f : ℕ → Term) (counts : List Count) → ((j : ℕ) → j < n → t j ≡ f j) → Started own t n counts → Started own f n counts
 started-same own n t f counts same p = record {

@@ -55,13 +55,6 @@ jitter-most t p = omega (arith, p.jitter, p.period-most)
 pub activations-some : (s : ℕ) (t : Term) → InRange t → 1 ≤ s → 1 ≤ activations_of s t
 activations-some s t p h = lt_of_not-le (λ m. let q = (ceil-le (s + t.jitter.0) 0 t.period.0 p.period).0 m in omega arith)
 
--- what one term can ask for
-pub work-bound : (r : ℕ) (t : Term) → InRange t → r ≤ 250000000 → work_of r t ≤ 250000000000000000
-work-bound r t p h =
-    mul-le-mul {n₂ = 500000000} {m₂ = 500000000}
-    (ceil-most (r + t.jitter.0) 500000000 t.period.0 p.period (omega (arith, jitter-most t p)))
-    p.weight
-
 -- the same terms may be handed in for other work of the task's own, and at another time
 pub handed-for : {own r : ℕ} {terms : List Term} → Handed own terms r → {c s : ℕ} → 1 ≤ c → c ≤ 500000000 → s ≤ 250000000 → Handed c terms s
 handed-for p least most time = record {
@@ -128,9 +121,3 @@ pub answer-by : (place : ℕ → ℕ) → Rising place → (e f : ℕ → Term) 
     → NoLater (least_of (demand_of c e n) l) (least_of (demand_of d f (place n)) m)
 answer-by place rises e f n c d l m h k p q =
     least_of-no-later _ (demand-mono e n c p) _ (λ x. demand-by place rises e f n c d x x h (omega arith) q) l m k
-
--- where there is no answer there is none for terms that ask for more
-pub none_from : (own limit n : ℕ) (e f : ℕ → Term) → ((j : ℕ) → j < n → InRange (e j)) → ((j : ℕ) → j < n → NoMore (e j) (f j))
-    → Unschedulable ≡ least_of (demand_of own e n) limit → Unschedulable ≡ least_of (demand_of own f n) limit
-none_from own limit n e f ranged under q =
-    none-latest _ _ (least_of-no-later _ (demand-mono e n own ranged) _ (demand-more e f n own own (omega arith) under) limit limit (omega arith)) q

@@ -15,14 +15,6 @@ later-assoc (Within x) (Within y) Unschedulable = refl
 later-assoc (Within x) Unschedulable c = refl
 later-assoc Unschedulable b c = refl
 
--- one that is no later than another does not change it
-pub later_second : (a b : Response) → NoLater a b → later a b ≡ b
-unfolding NoLater
-later_second (Within x) (Within y) p = ap (λ (n : ℕ). Within (record { 0 = n })) (omega arith)
-later_second (Within x) Unschedulable p = refl
-later_second Unschedulable (Within y) p = absurd p
-later_second Unschedulable Unschedulable p = refl
-
 to_none : (a : Response) → NoLater a Unschedulable
 unfolding NoLater
 to_none (Within x) = tt

@@ -13,7 +13,7 @@ use Rattle.analysis.proofs.OneRowLaws.{charged-none, tells-front}
 use Rattle.analysis.proofs.blocked_row.ucb_union.Goals as goal
 
 pub loop-j-init : goal.loop-j-init
-loop-j-init c = record { charged = charged-none _ c.requires.2.long; all = members-empty ∙ union-none (ucb_of c.args.table.now) (c.args.i + 1) }
+loop-j-init c = record { charged = charged-none _ c.requires.2; all = members-empty ∙ union-none (ucb_of c.args.table.now) (c.args.i + 1) }
 
 pub loop-j-preserved : goal.loop-j-preserved
 loop-j-preserved c =
