@@ -1,4 +1,4 @@
--- The search for the largest value: in which order the positions are looked at does not matter, and some need not be looked at. Assumes nothing.
+-- The search for the largest value: in which order the positions are looked at does not matter, and some need not be looked at.
 use Rattle.std.proofs.Common.{ℕ, ◌+◌, ◌≤◌, ◌<◌, arith, ◌≡◌, refl, Bool, true, false, cond, ◌&&◌, ◌||◌, ◌⊎◌, inl, inr, ⊎_elim, List, ltb, eqb, below_more, ltb-true, ltb-false, eqb-true}
 use Rattle.std.proofs.lemmas.Bool.{eqb-false}
 use Rattle.cache.specs.declared.units.Reloads.{Reloads}

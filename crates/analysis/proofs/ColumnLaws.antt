@@ -1,4 +1,4 @@
--- Facts about the columns that are carried down the rows. Assumes nothing.
+-- Facts about the columns that are carried down the rows.
 use Rattle.std.proofs.Common.{ℕ, ◌+◌, ◌<◌, arith, ◌≡◌, refl, sym, ap, ◌∙◌, List, below_more, set, length-set, get_or-set_same, get_or-set_other}
 use Rattle.cache.specs.declared.sets.CacheSet.{CacheSet}
 use Rattle.cache.specs.Sets.{Set, ◌∪◌, ◌∩◌, size}

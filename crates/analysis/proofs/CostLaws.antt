@@ -1,4 +1,4 @@
--- Facts about reload counts. Assumes nothing.
+-- Facts about reload counts.
 use Rattle.std.proofs.Common.{ℕ, ◌+◌, ◌≤◌, max, arith, ◌≡◌, refl, ap, ◌∙◌, List}
 use Rattle.cache.specs.Sets.{Set, ∅, ◌∪◌, ◌∩◌, size}
 use Rattle.cache.proofs.SetLaws.{union_comm, union-empty, size-le, size_none, size-inter-left}

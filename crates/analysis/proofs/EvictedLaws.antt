@@ -1,4 +1,4 @@
--- ECB-Union, carried up a row: going up the ECBs get fewer, so what bounded the shares still does. Assumes nothing.
+-- ECB-Union, carried up a row: going up the ECBs get fewer, so what bounded the shares still does.
 use Rattle.std.proofs.Common.{ℕ, ◌+◌, ◌≤◌, ◌<◌, arith, ◌≡◌, refl, ap, List, length, replicate, set}
 use Rattle.std.proofs.lemmas.List.{get_or-replicate}
 use Rattle.cache.specs.declared.units.Reloads.{Reloads}

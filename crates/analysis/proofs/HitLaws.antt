@@ -1,4 +1,4 @@
--- The largest value, and the first position that has it. Assumes nothing.
+-- The largest value, and the first position that has it.
 use Rattle.std.proofs.Common.{ℕ, zero, suc, ◌+◌, ◌-◌, ◌≤◌, ◌<◌, max, le_antisymm, lt_of_not-le, arith, ◌≡◌, refl, sym, ap, ap₂, ◌∙◌, Bool, true, false, cond, List, ltb, below_more, ltb-true, ltb-false}
 use Rattle.search.specs.Positions.{between}
 use Rattle.search.proofs.PositionLaws.{between_first, fold-none, fold_next, fold-front, fold-part}

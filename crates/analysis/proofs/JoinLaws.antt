@@ -1,4 +1,4 @@
--- A row of charges that an access joins: above its ceiling its UCB is one member more, and from there on nothing changes. Assumes nothing.
+-- A row of charges that an access joins: above its ceiling its UCB is one member more, and from there on nothing changes.
 use Rattle.std.proofs.Common.{ℕ, ◌+◌, ◌≤◌, ◌<◌, zero-le, arith, ◌≡◌, refl, sym, ◌∙◌, List, set, get_or-set_other}
 use Rattle.table.specs.declared.accesses.Access.{Access}
 use Rattle.table.specs.declared.Table.{Table}

@@ -1,4 +1,4 @@
--- How a need is found, and what it says of the response. Assumes nothing.
+-- How a need is found, and what it says of the response.
 use Rattle.std.proofs.Common.{ℕ, ◌+◌, max, ◌≤◌, ◌<◌, arith, ◌≡◌, refl, sym, ap, ap₂, ◌∙◌, Bool, true, false, cond, List, [], ◌∷◌, ◌++◌, map, append-nil, ltb, leb, length, get_or, take, take-suc, add-one, le-leb, ltb-true, ltb-false, fold}
 use Rattle.std.proofs.Math.Decide.{dec_le}
 use Rattle.std.proofs.lemmas.Bool.{lt-leb}

@@ -1,4 +1,4 @@
--- A row is filled from the last task above up to the first. Assumes nothing.
+-- A row is filled from the last task above up to the first.
 use Rattle.std.proofs.Common.{ℕ, ◌+◌, ◌≤◌, ◌<◌, eq-or-lt_of_le, arith, ◌≡◌, refl, subst, ap, ◌∙◌, ⊎_elim, List, length, get_or, set, replicate, length-set, get_or-set_same, get_or-set_other, below_more}
 use Rattle.std.proofs.lemmas.List.{get_or-replicate}
 use Rattle.cache.specs.declared.sets.CacheSet.{CacheSet}

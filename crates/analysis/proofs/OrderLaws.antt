@@ -1,4 +1,4 @@
--- A harder table has no smaller costs. Assumes nothing.
+-- A harder table has no smaller costs.
 use Rattle.std.proofs.Common.{ℕ, ◌+◌, ◌≤◌, ◌<◌, max, zero-le, mul-le-mul, arith, ◌≡◌, sym, ◌∙◌, Bool, true, false, cond, ltb, leb, le-leb, lt-ltb, le-ltb}
 use Rattle.std.proofs.Math.Decide.{dec_lt}
 use Rattle.std.proofs.lemmas.Bool.{lt-leb}

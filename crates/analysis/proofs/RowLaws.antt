@@ -1,4 +1,4 @@
--- Facts about the searches of one row. Assumes nothing.
+-- Facts about the searches of one row.
 use Rattle.std.specs.Prelude.{None as NoPlace}
 use Rattle.std.proofs.Common.{ℕ, ◌+◌, ◌≤◌, ◌<◌, zero-le, mul-le-mul_left, arith, ◌≡◌, refl, sym, ap, subst, ◌∙◌, true, false, ◌⊎◌, inl, inr, Option, Some, List, [], map, length, get_or, set, take, get_or-take, length-take-le}
 use Rattle.cache.specs.Sets.{Set}

@@ -1,4 +1,4 @@
--- Facts about the terms of a row that are put in. Assumes nothing.
+-- Facts about the terms of a row that are put in.
 use Rattle.std.proofs.Common.{ℕ, ◌+◌, ◌≤◌, ◌<◌, zero-le, arith, ◌≡◌, sym, ap, ◌∙◌, below_more, set, length-set, get_or-set_same, get_or-set_other}
 use Rattle.std.proofs.Math.Decide.{dec_lt}
 use Rattle.search.specs.declared.demand.Term.{Term}

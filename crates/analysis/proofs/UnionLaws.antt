@@ -1,4 +1,4 @@
--- A union over one position more, at either end. Assumes nothing.
+-- A union over one position more, at either end.
 use Rattle.std.proofs.Common.{ℕ, ◌+◌, ◌≤◌, ◌<◌, ◌≡◌, refl, sym}
 use Rattle.cache.specs.Sets.{Set, ∅, ◌∪◌, ◌⊆◌}
 use Rattle.cache.proofs.SetLaws.{union_comm, union_assoc, union_left}

@@ -1,4 +1,4 @@
--- Laws of a cache-set field. Assumes nothing.
+-- Laws of a cache-set field.
 use Rattle.std.proofs.Common.{◌≡◌, refl, sym, ap, ◌∙◌, Bool, true, false, ◌&&◌, cond, List, ℕ, ◌/◌, ◌%◌, ◌^◌, ◌≤◌, ◌<◌, lt_of_lt_of_le, arith, length, pow_mono, leb, eqb, lit<, leb-true, le-leb, eq-eqb, ne_eqb, eqb-true}
 use Rattle.std.proofs.Math.Decide.{dec_lt}
 use Rattle.std.proofs.Math.Nat.{div-eq_of_lt}

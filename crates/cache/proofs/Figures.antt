@@ -1,4 +1,4 @@
--- The definitions compute: worked figures. Assumes nothing.
+-- The definitions compute: worked figures.
 use Rattle.std.proofs.Common.{◌≡◌, refl, [], ◌∷◌, ◌^◌, ◌-◌}
 use Rattle.cache.specs.Hex.{hex_digit, read_hex}
 use Rattle.cache.specs.Sets.{◌∩◌, size_below, size}

@@ -1,4 +1,4 @@
--- Laws of sets of cache sets and of their sizes. Assumes nothing.
+-- Laws of sets of cache sets and of their sizes.
 use Rattle.std.proofs.Common.{◌≡◌, refl, ap, ap₂, ◌∙◌, Bool, true, false, cond, ◌&&◌, ◌||◌, ℕ, zero, suc, ◌+◌, ◌≤◌, zero-le, le_refl, add-le-add, arith}
 use Rattle.std.proofs.Math.Bool.{or_comm, or_assoc, or_self}
 use Rattle.std.proofs.Math.Path.{fun_ext}

@@ -1,4 +1,4 @@
--- What word operations do to the set that the words stand for. Assumes nothing.
+-- What word operations do to the set that the words stand for.
 use Rattle.std.proofs.Common.{◌≡◌, refl, sym, ap, ap₂, ◌∙◌, Bool, false, cond, ◌&&◌, ◌||◌, ℕ, zero, suc, ◌+◌, ◌*◌, ◌/◌, ◌%◌, ◌^◌, ◌≤◌, ◌<◌, mod-lt, div-one, lt_of_lt_of_le, one-add, add-one, arith, pow_mono, shr-shr, shr_lt, bit_and, bit_or, eqb, lit<}
 use Rattle.std.proofs.Math.Arith.{lt-one, digits_lt}
 use Rattle.std.proofs.Math.Nat.{zero-div, div-eq_of_lt}

@@ -1,5 +1,5 @@
 -- The tasks of a scaled table, one place at a time and all at once; that a table that is scaled by more is harder; and up to which factor a C is scaled to no
--- more than the longest. Assumes nothing.
+-- more than the longest.
 use Rattle.std.proofs.Common.{◌≡◌, ℕ, suc, ◌+◌, ◌*◌, ◌/◌, ◌≤◌, ◌<◌, List, ◌++◌, length, take, drop, get_or, set, map, refl, sym, ap, ◌∙◌, arith, add-one, append-nil}
 use Rattle.std.proofs.Math.Nat.{mul_comm, mul-le-mul, mul-le-mul_left, le-div_iff_mul-le, lt_of_not-le, zero-mul}
 use Rattle.std.proofs.Math.ListN.{length-map, drop_of_length-le, get_or-map}

@@ -1,4 +1,4 @@
--- When the text of a scaled table is accepted: just where no C is scaled beyond the longest, and then as that table. Assumes nothing.
+-- When the text of a scaled table is accepted: just where no C is scaled beyond the longest, and then as that table.
 use Rattle.std.proofs.Common.{◌≡◌, ℕ, zero, suc, ◌+◌, ◌-◌, ◌≤◌, ◌<◌, Bool, true, not, cond, ◌||◌, List, [], ◌∷◌, ◌++◌, length, take, get_or, map, flat_map, replicate, refl, sym, ap, ap₂, ◌∙◌, arith, subst, Some, Result, Ok, le-leb}
 use Rattle.std.proofs.Math.ListN.{length-map}
 use Rattle.std.proofs.lemmas.List.{map-append}

@@ -1,5 +1,4 @@
 -- A table whose execution times are scaled by k thousandths: each C becomes ⌈C × k / 1000⌉, and all else stays, B and the lengths of accesses as well.
--- Assumes nothing.
 use Rattle.std.specs.Prelude.{ℕ, ◌*◌, ◌≤◌, ◌<◌, ◌≡◌, map, length}
 use Rattle.std.specs.List.{All}
 use Rattle.search.specs.Demand.{ceil}

@@ -1,5 +1,5 @@
 -- Any order. The laws by which an analysis may be done in parts, in whatever order, and put together: of cache sets, of what is gathered over positions, and of
--- the whole equation of a task. Assumes nothing.
+-- the whole equation of a task.
 use Rattle.std.proofs.Common.{ℕ, ◌+◌, max, ◌<◌, zero-le, add_comm, add_assoc, arith, ◌≡◌, refl, sym, ap, ap₂, ◌∙◌, List, map}
 use Rattle.std.proofs.Math.Path.{fun_ext}
 use Rattle.cache.specs.Sets.{Set, ∅, ◌∪◌, ◌∩◌, size}

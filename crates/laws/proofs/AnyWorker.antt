@@ -1,6 +1,5 @@
 -- Any worker. What a public operation promises is an equation with a definition of the text, the numbers and, for 14, the buffer's length. So two calls that
 -- agree on these agree on the answer and on every byte that is written, whoever makes them, in whatever order, and whatever their buffers held.
--- Assumes nothing.
 use Rattle.std.proofs.Common.{◌≡◌, ℕ, ◌≤◌, Bool, true, false, cond, List, [], length, arith, refl, sym, ap, ◌∙◌, inl, inr, Result, Ok, Err, leb, le-leb}
 use Rattle.table.specs.declared.refusals.Reason.TheVariants.{ShortBuffer}
 use Rattle.table.specs.declared.refusals.Refusal.{Refusal}

@@ -1,4 +1,4 @@
--- The examples: lists that are permutations, and lists that are none. Assumes nothing.
+-- The examples: lists that are permutations, and lists that are none.
 use Rattle.std.proofs.Common.{arith, [], ◌∷◌}
 use Rattle.search.specs.Positions.{run, hp}
 use Rattle.laws.specs.Permutations.{times_in, Permutation}

@@ -1,4 +1,4 @@
--- The lines of an explanation add up to the need, and the need is the response where it is within the limit. Assumes nothing.
+-- The lines of an explanation add up to the need, and the need is the response where it is within the limit.
 use Rattle.std.proofs.Common.{ℕ, ◌≤◌, ◌<◌, List, ◌≡◌, sym, ap, ◌∙◌, arith}
 use Rattle.cache.specs.declared.units.Ticks.{Ticks}
 use Rattle.search.specs.declared.demand.Response.TheVariants.{Within}

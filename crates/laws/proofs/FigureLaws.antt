@@ -1,4 +1,4 @@
--- A response rests on the block reload time, on the tasks without their names, and on the accesses; so each figure is that of every such table. Assumes nothing.
+-- A response rests on the block reload time, on the tasks without their names, and on the accesses; so each figure is that of every such table.
 use Rattle.std.proofs.Common.{ℕ, ◌+◌, ◌*◌, ◌<◌, List, map, length, get_or, ◌≡◌, sym, ap, ap₂, ◌∙◌}
 use Rattle.std.specs.List.{All}
 use Rattle.std.proofs.Math.Path.{fun_ext}

@@ -1,4 +1,4 @@
--- What a growth means, in words of tables. Assumes nothing.
+-- What a growth means, in words of tables.
 use Rattle.std.proofs.Common.{ℕ, zero, suc, ◌≤◌, ◌<◌, true, ◌&&◌, ◌≡◌, refl, sym, ap, ◌∙◌, arith, add-one, zero-le}
 use Rattle.std.proofs.Math.Bool.{and-eq-true_iff, false≢true}
 use Rattle.std.proofs.Math.Decide.{dec_le}

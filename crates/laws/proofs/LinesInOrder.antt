@@ -1,4 +1,4 @@
--- The order of the lines is that of the priorities, and stays: with two of them changed round there are other answers. Assumes nothing.
+-- The order of the lines is that of the priorities, and stays: with two of them changed round there are other answers.
 use Rattle.std.proofs.Common.{◌≡◌, refl}
 use Rattle.table.specs.Cut.{up_to, lines}
 use Rattle.table.specs.Fields.{read_digits, read_number, has_shape, is_name}

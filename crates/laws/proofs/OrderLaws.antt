@@ -1,4 +1,4 @@
--- Tables that are no harder, and positions in any order. Assumes nothing.
+-- Tables that are no harder, and positions in any order.
 use Rattle.std.proofs.Common.{ℕ, zero, suc, ◌+◌, ◌-◌, ◌≤◌, ◌<◌, List, [], ◌∷◌, ◌++◌, length, take, get_or, ◌≡◌, refl, ap, ◌∙◌, arith, eq-eqb, zero-le}
 use Rattle.std.proofs.lemmas.List.{take_more}
 use Rattle.std.proofs.Math.Decide.{dec_lt}

@@ -1,5 +1,5 @@
 -- Laws of lists in any order: what a permutation is in other words, and that what is gathered over a list by an operation that is commutative and
--- associative does not depend on the order. Assumes nothing.
+-- associative does not depend on the order.
 use Rattle.std.proofs.Common.{ℕ, zero, suc, ◌+◌, ◌-◌, ◌≤◌, ◌<◌, arith, ◌≡◌, refl, sym, ap, ap₂, ◌∙◌, Bool, true, false, cond, ◌↔◌, List, [], ◌∷◌, ◌++◌, eqb, eq-eqb, ne_eqb, eqb-true}
 use Rattle.std.proofs.Math.Decide.{dec_lt}
 use Rattle.std.proofs.Math.Logic.{∥∥₁_elim}

@@ -1,4 +1,4 @@
--- What a response means. Assumes nothing.
+-- What a response means.
 use Rattle.std.proofs.Common.{ℕ, List, length, map, ◌≡◌, ◌≤◌, ◌<◌, min, inl, inr, refl, sym, ap, subst, ◌∙◌, arith, get_or}
 use Rattle.std.specs.List.{All, Any}
 use Rattle.std.proofs.lemmas.List.{get_or-map, length-map, get_or_default}

@@ -1,4 +1,4 @@
--- From the promises of `sets` to what two ways of working a set out return. Assumes nothing.
+-- From the promises of `sets` to what two ways of working a set out return.
 use Rattle.std.proofs.Common.{◌≡◌, sym, ◌∙◌}
 use Rattle.cache.specs.declared.sets.CacheSet.{CacheSet}
 use Rattle.cache.specs.Sets.{Set}

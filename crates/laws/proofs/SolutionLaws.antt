@@ -1,4 +1,4 @@
--- What the search finds is the smallest solution. Assumes nothing.
+-- What the search finds is the smallest solution.
 use Rattle.std.proofs.Common.{ℕ, List, length, ◌≡◌, sym, subst, ◌∙◌}
 use Rattle.search.specs.declared.demand.Term.{Term}
 use Rattle.search.specs.declared.demand.Response.{Response}

@@ -1,4 +1,4 @@
--- What is told of texts. Assumes nothing.
+-- What is told of texts.
 use Rattle.std.proofs.Common.{ℕ, ◌≤◌, Bool, true, false, List, ◌++◌, length, take, drop, ◌≡◌, refl, sym, ◌∙◌, arith, cond, ltb, Result, Ok, Err}
 use Rattle.std.proofs.lemmas.Bool.{ltb-false, le-ltb}
 use Rattle.std.proofs.Math.Seq.{take_at}

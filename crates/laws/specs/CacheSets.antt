@@ -1,4 +1,4 @@
--- The law of sizes, and what is promised of code that works a set out in two ways, or the sizes of that law. Assumes nothing.
+-- The law of sizes, and what is promised of code that works a set out in two ways, or the sizes of that law.
 use Rattle.std.specs.Prelude.{◌+◌, ◌≡◌}
 use Rattle.cache.specs.Sets.{Set, ◌∪◌, ◌∩◌, size}
 use Rattle.cache.specs.Words.{members}

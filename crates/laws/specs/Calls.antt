@@ -1,4 +1,4 @@
--- When two calls of an operation agree. Assumes nothing.
+-- When two calls of an operation agree.
 use Rattle.std.specs.Prelude.{ℕ, ◌≤◌, ◌≡◌, ◌⊎◌, List, ◌++◌, length, drop}
 use Rattle.crpd.specs.Operations.{answer_to, TextReported}
 use Rattle.laws.specs.declared.any_worker.Replies.{Replies}

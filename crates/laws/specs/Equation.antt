@@ -1,4 +1,4 @@
--- The equation of a task with its sum, and every union and largest value over tasks, taken in an order of its own. Assumes nothing.
+-- The equation of a task with its sum, and every union and largest value over tasks, taken in an order of its own.
 use Rattle.std.specs.Prelude.{ℕ, ◌+◌, max, ◌<◌, List, map}
 use Rattle.cache.specs.Sets.{Set, ◌∪◌, ◌∩◌, size}
 use Rattle.table.specs.Tasks.{limit_of}

@@ -1,4 +1,4 @@
--- What an explanation says is true of the equation. Assumes nothing.
+-- What an explanation says is true of the equation.
 use Rattle.std.specs.Prelude.{ℕ, ◌+◌, ◌*◌, ◌≤◌, ◌≡◌}
 use Rattle.cache.specs.declared.units.Ticks.{Ticks}
 use Rattle.search.specs.declared.demand.Response.TheVariants.{Within}

@@ -1,4 +1,4 @@
--- The figures that were worked out by hand, of the tables that they are about. Assumes nothing.
+-- The figures that were worked out by hand, of the tables that they are about.
 use Rattle.std.specs.Prelude.{ℕ, ◌≡◌, [], map, All}
 use Rattle.search.specs.declared.demand.Response.{Response}
 use Rattle.table.specs.declared.tasks.Task.{Task}

@@ -1,4 +1,4 @@
--- How much growth is left, in words of tables. Assumes nothing.
+-- How much growth is left, in words of tables.
 use Rattle.std.specs.Prelude.{ℕ, ◌≤◌, ◌<◌, ◌≡◌}
 use Rattle.cache.specs.declared.units.Ticks.{Ticks}
 use Rattle.search.specs.declared.demand.Response.TheVariants.{Within}

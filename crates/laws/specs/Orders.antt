@@ -1,4 +1,4 @@
--- Tables that are no harder than others. Assumes nothing.
+-- Tables that are no harder than others.
 use Rattle.std.specs.Prelude.{ℕ, ◌≤◌, ◌≡◌}
 use Rattle.cache.specs.declared.units.Ticks.{Ticks}
 use Rattle.search.specs.declared.demand.Response.{Response}

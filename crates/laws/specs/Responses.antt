@@ -1,4 +1,4 @@
--- What a response is, without a word of how it is found. Assumes nothing.
+-- What a response is, without a word of how it is found.
 use Rattle.std.specs.Prelude.{ℕ, ◌+◌, ◌≡◌, ◌⊎◌, All, Any}
 use Rattle.search.specs.declared.demand.Response.{Response}
 use Rattle.search.specs.Demand.{demand_of}

@@ -1,4 +1,4 @@
--- The smallest solution of an equation. Assumes nothing.
+-- The smallest solution of an equation.
 use Rattle.std.specs.Prelude.{ℕ, ◌≤◌, ◌≡◌}
 use Rattle.cache.specs.declared.units.Ticks.{Ticks}
 use Rattle.search.specs.declared.demand.Response.{Response}

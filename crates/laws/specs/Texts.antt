@@ -1,4 +1,4 @@
--- What is told of table texts. Assumes nothing.
+-- What is told of table texts.
 use Rattle.std.specs.Prelude.{ℕ, ◌≤◌, ◌≡◌, List, ◌++◌, length, drop, Result, Ok}
 use Rattle.cache.specs.declared.units.Ticks.{Ticks}
 use Rattle.search.specs.declared.demand.Response.TheVariants.{Within}

@@ -1,4 +1,4 @@
--- The lines of an explanation, as the writes of their parts give them, and how long the parts are. Assumes nothing.
+-- The lines of an explanation, as the writes of their parts give them, and how long the parts are.
 use Rattle.std.proofs.Common.{◌≡◌, refl, ap, ap₂, ◌∙◌, ℕ, ◌+◌, ◌≤◌, ◌<◌, arith, length}
 use Rattle.std.specs.Prelude.{List, [], ◌∷◌}
 use Rattle.cache.specs.Sets.{Set, ◌∩◌, size}

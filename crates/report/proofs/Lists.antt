@@ -1,4 +1,4 @@
--- Lists over positions and over the numbers of the methods: one position more, and functions that agree. Assumes nothing.
+-- Lists over positions and over the numbers of the methods: one position more, and functions that agree.
 use Rattle.std.proofs.Common.{◌≡◌, refl, sym, ap, ◌∙◌, ℕ, zero, suc, ◌+◌, ◌<◌, ◌≤◌, eq-or-lt_of_le, arith, inl, inr, add-one, length, take, set, get_or, length-append, take-suc-set}
 use Rattle.std.specs.Prelude.{List, ◌++◌, map, flat_map}
 use Rattle.search.specs.Positions.{run, between}

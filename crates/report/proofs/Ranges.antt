@@ -1,4 +1,4 @@
--- The need that an explanation is made from is in range, and it makes up the explanation. Assumes nothing.
+-- The need that an explanation is made from is in range, and it makes up the explanation.
 use Rattle.std.proofs.Common.{ℕ, ◌<◌, arith, ◌≡◌, refl, ap₂, ◌++◌, true, length-take-le, get_or-take}
 use Rattle.search.proofs.LeastLaws.{least-in-range}
 use Rattle.table.specs.declared.tasks.Task.{Task}

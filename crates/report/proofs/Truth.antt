@@ -1,5 +1,5 @@
 -- What an explanation says is true of the equation: its lines add up to the need, and the victim has the reloads that are charged. What a need says of
--- the response stands in `need`. Assumes nothing.
+-- the response stands in `need`.
 use Rattle.std.proofs.Common.{ℕ, ◌+◌, ◌*◌, ◌≤◌, ◌<◌, arith, ◌≡◌, sym, subst, ◌∙◌}
 use Rattle.cache.specs.declared.units.Ticks.{Ticks}
 use Rattle.cache.specs.Sets.{Set, ◌∩◌, size}

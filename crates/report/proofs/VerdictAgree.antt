@@ -1,4 +1,4 @@
--- The verdict line depends on nothing but the answers of the tasks under the six methods. Assumes nothing.
+-- The verdict line depends on nothing but the answers of the tasks under the six methods.
 use Rattle.std.specs.Prelude.{List, [], ◌∷◌}
 use Rattle.std.proofs.Common.{length, take, length-take-le, ◌≡◌, ap, true, ◌&&◌, ℕ, ◌-◌, ◌<◌, ◌≤◌, arith}
 use Rattle.std.proofs.Math.Seq.{get_or-take}

@@ -1,4 +1,4 @@
--- A verdict is asked of the rows one by one. Assumes nothing.
+-- A verdict is asked of the rows one by one.
 use Rattle.std.proofs.Common.{◌≡◌, refl, sym, ap, ◌∙◌, ℕ, zero, suc, ◌≤◌, true, ◌&&◌, List, length, take, arith, add-one, zero-le}
 use Rattle.std.specs.List.{list_all}
 use Rattle.std.proofs.lemmas.List.Folds.{list_all_more}

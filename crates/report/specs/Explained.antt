@@ -1,4 +1,4 @@
--- What the writer of an explanation promises, and what its parts are handed. Assumes nothing.
+-- What the writer of an explanation promises, and what its parts are handed.
 use Rattle.std.specs.Prelude.{ℕ, ◌≤◌, ◌<◌, List, length, Result}
 use Rattle.search.specs.Least.{AnswerInRange}
 use Rattle.table.specs.declared.tasks.Task.{Task}

@@ -1,4 +1,4 @@
--- The explanation of a figure as bytes. Assumes nothing.
+-- The explanation of a figure as bytes.
 use Rattle.std.specs.Prelude.{ℕ, ◌+◌, List, [], ◌∷◌, ◌++◌, flat_map}
 use Rattle.search.specs.declared.demand.Response.{Response}
 use Rattle.search.specs.declared.demand.Response.TheVariants.{Within, Unschedulable}

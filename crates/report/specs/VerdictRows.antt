@@ -1,4 +1,4 @@
--- The answers that rows hold. Assumes nothing.
+-- The answers that rows hold.
 use Rattle.std.specs.Prelude.{ℕ, List, [], slice_index_or}
 use Rattle.search.specs.declared.demand.Response.{Response}
 use Rattle.search.specs.declared.demand.Response.TheVariants.{Within}

@@ -1,5 +1,4 @@
 -- The verdicts of the methods, and the last line of the report as bytes. In it `answers m i` is what method m answers for the task at position i.
--- Assumes nothing.
 use Rattle.std.specs.Prelude.{ℕ, Bool, true, false, ◌&&◌, List, [], ◌∷◌, map}
 use Rattle.search.specs.declared.demand.Response.{Response}
 use Rattle.search.specs.declared.demand.Response.TheVariants.{Within, Unschedulable}

@@ -1,4 +1,4 @@
--- Facts about the counts that are kept from turn to turn. Assumes nothing.
+-- Facts about the counts that are kept from turn to turn.
 use Rattle.std.proofs.Common.{ℕ, ◌+◌, ◌-◌, ◌*◌, ◌≤◌, ◌<◌, zero-le, div-mul-le_self, le_antisymm, lt_of_not-le, mul-le-mul, mul-le-mul_left, mul-le-mul_right, arith, ◌≡◌, refl, sym, ap, ap₂, ◌∙◌, Bool, true, false, cond, List, ltb, below_more, ltb-true, ltb-false, length, set, take, length-set, get_or-set_same, get_or-set_other}
 use Rattle.std.proofs.Math.Decide.{dec_le}
 use Rattle.std.proofs.lemmas.List.{get_or-take, length-take}

@@ -1,4 +1,4 @@
--- Facts about the demand: what a term asks for, the demand of one term more, and that it grows with all that it is made of. Assumes nothing.
+-- Facts about the demand: what a term asks for, the demand of one term more, and that it grows with all that it is made of.
 use Rattle.std.proofs.Common.{ℕ, zero, suc, ◌+◌, ◌-◌, ◌*◌, ◌≤◌, ◌<◌, zero-le, div-lt_iff_lt-mul, le_antisymm, lt_of_not-le, mul-le-mul, mul-le-mul_left, add-one, arith, ◌≡◌, refl, sym, ap, ◌↔◌, List}
 use Rattle.std.proofs.Math.Path.{fun_ext}
 use Rattle.search.specs.declared.demand.Response.TheVariants.{Unschedulable}

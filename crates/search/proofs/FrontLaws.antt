@@ -1,4 +1,4 @@
--- Facts about lists that are filled from the front. Assumes nothing.
+-- Facts about lists that are filled from the front.
 use Rattle.std.proofs.Common.{ℕ, suc, ◌+◌, ◌-◌, ◌≤◌, ◌<◌, arith, ◌≡◌, refl, sym, ap, ap₂, ◌∙◌, List, ◌++◌, map, length, get_or, set, replicate, length-append}
 use Rattle.std.proofs.Math.ListN.{get_or-append}
 use Rattle.std.proofs.Math.Seq.{append_snoc}

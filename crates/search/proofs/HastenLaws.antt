@@ -1,4 +1,4 @@
--- Facts about the hastened iteration. Assumes nothing.
+-- Facts about the hastened iteration.
 use Rattle.std.proofs.Common.{ℕ, ◌+◌, ◌-◌, ◌*◌, ◌≤◌, ◌<◌, div-mul-le_self, div-le_self, mul-le-mul_right, arith, ◌≡◌, sym, ap}
 use Rattle.search.specs.declared.hasten.Part.{Part}
 use Rattle.search.specs.declared.demand.Term.{Term}

@@ -1,4 +1,4 @@
--- Facts about the later of two answers, and the latest of some. Assumes nothing.
+-- Facts about the later of two answers, and the latest of some.
 use Rattle.std.proofs.Common.{ℕ, zero, suc, max, ◌≤◌, ◌<◌, arith, ◌≡◌, refl, ap, sym, subst, ◌∙◌, List, [], ◌∷◌, ◌++◌, length, get_or, fold}
 use Rattle.std.proofs.Math.Decide.{dec_le}
 use Rattle.std.proofs.lemmas.List.Sums.{fold-append}

@@ -1,4 +1,4 @@
--- Facts about what the rounds ask for ahead, and how far a solution is away by it. Assumes nothing.
+-- Facts about what the rounds ask for ahead, and how far a solution is away by it.
 use Rattle.std.proofs.Common.{ℕ, ◌+◌, ◌-◌, ◌*◌, ◌≤◌, ◌<◌, lt_of_not-le, arith, ◌≡◌, refl, ap, ◌⊎◌, inl, inr, List}
 use Rattle.std.proofs.Math.Decide.{dec_le}
 use Rattle.search.specs.declared.demand.Term.{Term}

@@ -1,5 +1,4 @@
 -- Facts about least solutions, proved once for every demand f.
--- Assumes nothing.
 use Rattle.std.proofs.Common.{ℕ, zero, suc, ◌+◌, ◌≤◌, ◌<◌, le_antisymm, lt_of_not-le, eq-or-lt_of_le, arith, ◌≡◌, refl, ap, sym, subst, Bool, true, false, ◌⊎◌, inl, inr, eqb, eqb-true}
 use Rattle.std.proofs.Math.Decide.{dec_le}
 use Rattle.std.proofs.lemmas.Bool.{eqb-false}

@@ -1,4 +1,4 @@
--- Facts about shares of the processor. Assumes nothing.
+-- Facts about shares of the processor.
 use Rattle.std.proofs.Common.{ℕ, zero, suc, ◌+◌, ◌*◌, ◌≤◌, ◌<◌, zero-le, div-mul-le_self, eq-or-lt_of_le, mul-le-mul_left, mul-le-mul_right, add-one, arith, ◌≡◌, refl, sym, ap, ◌⊎◌, inl, inr}
 use Rattle.search.specs.declared.demand.Response.TheVariants.{Unschedulable}
 use Rattle.search.specs.declared.demand.Term.{Term}

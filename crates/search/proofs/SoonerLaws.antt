@@ -1,5 +1,4 @@
 -- Facts about the order of answers and the sooner of two.
--- Assumes nothing.
 use Rattle.std.proofs.Common.{arith, ◌≡◌, refl}
 use Rattle.search.specs.declared.demand.Response.{Response}
 use Rattle.search.specs.declared.demand.Response.TheVariants.{Within, Unschedulable}

@@ -1,4 +1,4 @@
--- What an access adds for a task above its ceiling, and for another. Assumes nothing.
+-- What an access adds for a task above its ceiling, and for another.
 use Rattle.std.proofs.Common.{ℕ, ◌≤◌, ◌<◌, ◌≡◌, lt-ltb, le-ltb}
 use Rattle.cache.specs.Sets.{∅}
 use Rattle.cache.specs.Words.{members}

@@ -1,4 +1,4 @@
--- The accesses that may block a task. Assumes nothing.
+-- The accesses that may block a task.
 use Rattle.std.proofs.Common.{ℕ, suc, ◌≤◌, ◌<◌, arith, ◌≡◌, refl, ap, Bool, true, false, cond, List, [], ◌∷◌, ◌++◌, length, get_or}
 use Rattle.table.specs.declared.accesses.Access.{Access}
 use Rattle.table.specs.Accesses.{may_block, blocking, or_else}

@@ -1,4 +1,4 @@
--- What a scan of two lists from the front has left to do. Assumes nothing.
+-- What a scan of two lists from the front has left to do.
 use Rattle.std.proofs.Common.{ℕ, suc, ◌+◌, ◌<◌, ◌≤◌, ◌≡◌, refl, ap, Bool, true, false, ◌&&◌, List, [], ◌∷◌, eqb, eq-eqb, ne_eqb, length, get_or, drop, drop_of_length-le}
 use Rattle.std.specs.Str.{bytes_eq}
 use Rattle.table.proofs.Left.{left-cons}

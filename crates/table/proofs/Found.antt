@@ -1,5 +1,4 @@
 -- Where a byte is found: the parts before it and after it, and the fields of a line.
--- Assumes nothing.
 use Rattle.std.proofs.Math.Seq.{take-length}
 use Rattle.std.proofs.lemmas.Bool.{false≢true}
 use Rattle.std.specs.Prelude.{Option, Some, None, is_some, IsTrue, position}

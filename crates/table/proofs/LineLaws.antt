@@ -1,4 +1,4 @@
--- What the tests on a task's numbers say. Assumes nothing.
+-- What the tests on a task's numbers say.
 use Rattle.std.proofs.Common.{◌≡◌, ℕ, ◌≤◌, Bool, true, ◌&&◌, leb-true, leb}
 use Rattle.std.proofs.Math.Bool.{and-eq-true_iff}
 use Rattle.table.specs.Fields.{is_within}

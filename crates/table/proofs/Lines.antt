@@ -1,5 +1,4 @@
 -- The lines of a text, one at a time: the part before the first LF, and the lines of the part after it; and how many they are at most.
--- Assumes nothing.
 use Rattle.std.proofs.Common.{ℕ, suc, ◌<◌, ◌≤◌, zero-le, suc-le-suc, ◌≡◌, refl, ap, arith, Bool, true, false, cond, List, [], ◌∷◌, not-suc-le-zero, eqb, eqb-true, length}
 use Rattle.std.proofs.lemmas.Bool.{eqb-false}
 use Rattle.table.specs.Cut.{up_to, after, lead, lines}

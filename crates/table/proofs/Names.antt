@@ -1,5 +1,4 @@
 -- A name in 12 bytes, one byte at a time, and that it keeps the name: names that fill up to the same bytes are the same.
--- Assumes nothing.
 use Rattle.std.proofs.Common.{ℕ, zero, suc, ◌+◌, ◌<◌, ◌≤◌, ◌≡◌, refl, sym, ap, ◌∙◌, true, ◌&&◌, List, [], ◌∷◌, ◌++◌, le_antisymm, add-one, arith, ne_eqb, leb-true, leb, length, get_or, take, drop, set, replicate, drop_of_length-le, length-take-le, take-suc, take_all, drop-cons}
 use Rattle.std.proofs.Math.Bool.{and-eq-true_iff}
 use Rattle.std.proofs.Math.Seq.{append_snoc}

@@ -1,4 +1,4 @@
--- The number of a refusal is at most 25. Assumes nothing.
+-- The number of a refusal is at most 25.
 use Rattle.std.proofs.Common.{ℕ, ◌≤◌, arith}
 use Rattle.table.specs.declared.refusals.Reason.{Reason}
 use Rattle.table.specs.declared.refusals.Reason.TheVariants.{TooLong, NotEnded, Shape, Name, Number, Range, Marks, Order, KnownName, TooManyTasks, NoTask, Method, Position, ShortBuffer, OtherTask, TooManyAccesses, Blocking, NoText}

@@ -1,5 +1,4 @@
 -- The digits of a number, one at a time.
--- Assumes nothing.
 use Rattle.std.proofs.Common.{ℕ, ◌+◌, ◌-◌, ◌*◌, ◌<◌, ◌≤◌, ◌^◌, ◌≡◌, true, false, leb-true, List, pow-suc, add-one, arith, leb, length, get_or, drop, drop_of_length-le}
 use Rattle.std.proofs.Math.Bool.{and-eq-true_iff}
 use Rattle.std.specs.Prelude.{Some, None}

@@ -1,4 +1,4 @@
--- What a value that is judged by rows of conditions is. Assumes nothing.
+-- What a value that is judged by rows of conditions is.
 use Rattle.std.proofs.Common.{ℕ, ◌≡◌, refl, Bool, true, false, cond, List, [], ◌∷◌, arith}
 use Rattle.std.specs.Prelude.{Result, Ok, Err}
 use Rattle.table.specs.declared.refusals.Reason.{Reason}

@@ -1,4 +1,4 @@
--- What a search from the front has passed. Assumes nothing.
+-- What a search from the front has passed.
 use Rattle.std.proofs.Common.{ℕ, ◌+◌, ◌<◌, ◌≤◌, ◌≡◌, List, arith, eq-eqb, ne_eqb, lt-ltb, le-ltb, eqb, length, get_or, drop}
 use Rattle.std.specs.Prelude.{Some, None, position}
 use Rattle.std.specs.List.{position_or_len}

@@ -1,5 +1,4 @@
 -- Whether a line has a shape, told from its fields, which are read one after the other.
--- Assumes nothing.
 use Rattle.std.proofs.Common.{ℕ, suc, ◌≡◌, refl, sym, ap, ◌∙◌, Bool, true, false, ◌&&◌, List, [], ◌∷◌, arith, ne_eqb, eq-eqb, eqb, length, get_or}
 use Rattle.std.specs.Str.{bytes_eq}
 use Rattle.table.specs.Cut.{fields, field_count}

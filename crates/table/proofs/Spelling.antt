@@ -1,5 +1,4 @@
 -- A number has one spelling: two fields that say the same number are the same bytes.
--- Assumes nothing.
 use Rattle.std.proofs.Common.{ℕ, ◌+◌, ◌-◌, ◌*◌, ◌^◌, ◌<◌, ◌≤◌, ◌≡◌, refl, ap₂, Bool, true, false, not, cond, ◌&&◌, ◌||◌, List, [], ◌∷◌, pow-suc, add-mul, mul_assoc, mul_right_comm, mul-le-mul_right, arith, leb-true, eqb-true, leb, eqb, lit<, length, get_or}
 use Rattle.std.proofs.Math.Bool.{and-eq-true_iff}
 use Rattle.std.proofs.Math.Nat.{pow-le-pow_right}

@@ -1,5 +1,4 @@
 -- What line a refusal of a text tells: one that a text of 16,384 bytes can have.
--- Assumes nothing.
 use Rattle.std.proofs.Common.{◌≡◌, ℕ, ◌+◌, ◌≤◌, Bool, true, false, not, cond, List, [], ◌∷◌, length, arith, refl, Result, Ok, Err, length-take, ltb-false}
 use Rattle.std.proofs.lemmas.List.Sums.{prefix_len-le-length}
 use Rattle.table.specs.Cut.{lines}

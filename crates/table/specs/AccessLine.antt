@@ -1,5 +1,4 @@
 -- What an access line says, field by field, and its refusals, each with its condition, in the order in which they are tried.
--- Assumes nothing.
 use Rattle.std.specs.Prelude.{ℕ, List, [], ◌∷◌, ◌≡◌, true, not, ◌&&◌, length, is_some, unwrap_or, nat_le, nat_lt}
 use Rattle.std.specs.List.{position_or_len}
 use Rattle.table.specs.Cut.{field}

@@ -1,5 +1,4 @@
 -- An access to a shared device: whom it may block, and which of its marks an activation can evict.
--- Assumes nothing.
 use Rattle.std.specs.Prelude.{ℕ, Bool, ◌&&◌, List, [], ◌∷◌, filter, if◌then◌else◌, nat_le, nat_lt}
 use Rattle.cache.specs.Sets.{Set, ∅}
 use Rattle.cache.specs.Words.{members}

@@ -1,5 +1,4 @@
 -- What a field says: a number or a name; and the shape of a line.
--- Assumes nothing.
 use Rattle.std.specs.Prelude.{ℕ, ◌+◌, ◌-◌, ◌*◌, List, [], ◌∷◌, Bool, not, ◌&&◌, ◌||◌, length, Option, Some, None, is_some, unwrap_or, if◌then◌else◌, nat_le, slice_index, ◌==◌}
 use Rattle.table.specs.Cut.{field, field_count}
 use Rattle.std.specs.List.{list_all}

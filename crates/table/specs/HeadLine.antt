@@ -1,5 +1,4 @@
 -- What line 1 says, field by field, and its refusals.
--- Assumes nothing.
 use Rattle.std.specs.Prelude.{ℕ, ◌%◌, List, [], ◌∷◌, not, ◌&&◌, Bool, ◌≡◌, true, ◌==◌}
 use Rattle.table.specs.Cut.{field}
 use Rattle.table.specs.Fields.{is_number, number, has_shape, is_within}

@@ -1,5 +1,4 @@
 -- Names, and the tasks that have them.
--- Assumes nothing.
 use Rattle.std.specs.Prelude.{List, Bool, ◌&&◌}
 use Rattle.std.specs.List.{list_any}
 use Rattle.std.specs.Str.{bytes_eq}

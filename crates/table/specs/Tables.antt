@@ -1,5 +1,4 @@
 -- The tasks of a table, and its accesses.
--- Assumes nothing.
 use Rattle.std.specs.Prelude.{ℕ, ◌+◌, List, take, set, replicate, slice_index_or}
 use Rattle.table.specs.declared.tasks.Task.{Task}
 use Rattle.table.specs.declared.tasks.head.Head.{Head}

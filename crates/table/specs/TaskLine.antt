@@ -1,5 +1,4 @@
 -- What a task line says, field by field, and its refusals, each with its condition, in the order in which they are tried.
--- Assumes nothing.
 use Rattle.std.specs.Prelude.{ℕ, List, [], ◌∷◌, Bool, ◌≡◌, true, not, ◌&&◌, Option, Some, None, is_some, unwrap_or, if◌then◌else◌, nat_le}
 use Rattle.table.specs.Cut.{field}
 use Rattle.table.specs.Fields.{is_number, number, has_shape, is_name, is_within}

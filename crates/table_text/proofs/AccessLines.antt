@@ -1,5 +1,5 @@
 -- The line of an access: a line that says what is tested here is not refused and says the same again, and a line that is not refused is what is written of what it
--- says, which passes the tests. Assumes nothing.
+-- says, which passes the tests.
 use Rattle.std.proofs.Common.{◌≡◌, ℕ, ◌%◌, ◌≤◌, ◌<◌, true, false, ◌&&◌, List, [], ◌∷◌, length, get_or, refl, ap, ◌∙◌, arith, Some, Ok, ltb-true, leb-true, lt-ltb, le-leb, ltb, leb}
 use Rattle.std.proofs.lemmas.Slice.Eq.{bytes_eq-Decides}
 use Rattle.std.proofs.lemmas.List.Sums.{position_or_len_is, passes_at_first}

@@ -1,4 +1,4 @@
--- Tables of lists: the table of a head, of tasks and of accesses, whose other places are empty. Each table that is read is one. Assumes nothing.
+-- Tables of lists: the table of a head, of tasks and of accesses, whose other places are empty. Each table that is read is one.
 use Rattle.std.proofs.Common.{◌≡◌, ℕ, zero, suc, ◌+◌, ◌-◌, ◌≤◌, ◌<◌, Bool, true, List, [], ◌∷◌, ◌++◌, length, take, drop, set, replicate, refl, sym, ap, ap₂, ◌∙◌, arith, length-append}
 use Rattle.std.proofs.Math.Bool.{and-eq-true_iff}
 use Rattle.std.proofs.Math.Seq.{append_snoc, set-append_seam, take-append_seam, drop-append_seam, length-take-le}

@@ -1,4 +1,4 @@
--- A line that is put together from its fields, and a text from its lines: each part is found again. Assumes nothing.
+-- A line that is put together from its fields, and a text from its lines: each part is found again.
 use Rattle.std.proofs.Common.{◌≡◌, ℕ, suc, ◌+◌, ◌-◌, ◌<◌, Bool, true, false, not, ◌&&◌, cond, List, [], ◌∷◌, ◌++◌, length, get_or, map, flat_map, refl, sym, ap, ap₂, ◌∙◌, arith, length-append, append-nil, ltb-true, lt-ltb, eqb-true, ne_eqb, eq-eqb, ltb, eqb, zero-le, suc-le-suc}
 use Rattle.std.proofs.Math.Bool.{and-eq-true_iff}
 use Rattle.std.proofs.Math.Seq.{append_snoc, get_or-append-add}

@@ -1,4 +1,4 @@
--- Tasks that are tested one after the other: those that are left, below those that are passed. Assumes nothing.
+-- Tasks that are tested one after the other: those that are left, below those that are passed.
 use Rattle.std.proofs.Common.{◌≡◌, ℕ, ◌+◌, ◌<◌, ◌≤◌, true, false, ◌&&◌, List, length, take, drop, get_or, add-one}
 use Rattle.std.proofs.Math.ListN.{drop_of_length-le}
 use Rattle.std.proofs.Math.Seq.{take-suc, drop-cons}

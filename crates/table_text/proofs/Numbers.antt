@@ -1,4 +1,4 @@
--- A number that is spelled is read as that number. Assumes nothing.
+-- A number that is spelled is read as that number.
 use Rattle.std.proofs.Common.{ℕ, ◌+◌, ◌-◌, ◌*◌, ◌/◌, ◌%◌, ◌≤◌, ◌<◌, ◌≡◌, refl, ap, ◌∙◌, Bool, true, false, cond, not, ◌&&◌, ◌||◌, List, [], ◌∷◌, ◌++◌, arith, le-leb, ne_eqb, leb, eqb, length, get_or}
 use Rattle.std.proofs.Math.Decide.{dec_lt}
 use Rattle.std.specs.Prelude.{Option, Some, None, is_some}

@@ -1,4 +1,4 @@
--- Places without a task, and without an access. Assumes nothing.
+-- Places without a task, and without an access.
 use Rattle.std.proofs.Common.{◌≡◌, true, refl, replicate, eqb-true}
 use Rattle.std.proofs.lemmas.Slice.Eq.{bytes_eq-Decides}
 use Rattle.table.specs.declared.tasks.Task.{Task}

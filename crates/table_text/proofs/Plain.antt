@@ -1,4 +1,4 @@
--- No field that is written holds a tab or an LF. Assumes nothing.
+-- No field that is written holds a tab or an LF.
 use Rattle.std.proofs.Common.{◌≡◌, ℕ, zero, suc, ◌+◌, ◌/◌, ◌%◌, ◌≤◌, Bool, true, false, ◌&&◌, cond, List, [], ◌∷◌, length, refl, arith, ne_eqb, lt-ltb, leb, ltb}
 use Rattle.std.proofs.Math.Bool.{and-eq-true_iff}
 use Rattle.std.proofs.lemmas.Bool.{false≢true, lt-leb}

@@ -1,4 +1,4 @@
--- What a text that is accepted leaves in the table: its lists pass the tests, and its lines are those that are written of them. Assumes nothing.
+-- What a text that is accepted leaves in the table: its lists pass the tests, and its lines are those that are written of them.
 use Rattle.std.proofs.Common.{◌≡◌, ℕ, ◌+◌, ◌≤◌, ◌<◌, Bool, true, false, cond, List, [], ◌∷◌, ◌++◌, length, map, refl, sym, ap, ◌∙◌, arith, length-append, append-nil, append_assoc, Result, Ok, Err, leb-false, ltb-false}
 use Rattle.std.proofs.Math.Bool.{and-eq-true_iff}
 use Rattle.std.proofs.lemmas.Bool.{false≢true, not-false}

@@ -1,5 +1,5 @@
 -- Reading and writing go back and forth: a text that is accepted is its table's text, and the text of a table that passes the tests is accepted as that table.
--- So the tests tell just which tables a text gives. Assumes nothing.
+-- So the tests tell just which tables a text gives.
 use Rattle.std.proofs.Common.{◌≡◌, ℕ, zero, suc, ◌+◌, ◌-◌, ◌%◌, ◌≤◌, ◌<◌, Bool, true, false, ◌||◌, List, [], ◌∷◌, ◌++◌, length, take, drop, get_or, map, flat_map, refl, sym, ap, ◌∙◌, arith, length-append, append-nil, append_assoc, Result, Ok, Err, leb-true, le-leb, le-ltb}
 use Rattle.std.proofs.Math.Seq.{length-take-le, get_or-take}
 use Rattle.std.proofs.lemmas.Bool.{false≢true, lt-leb}

@@ -1,5 +1,5 @@
 -- Line 1 and the line of a task: a line that says what is tested here is not refused and says the same again, and a line that is not refused is what is written of
--- what it says, which passes the tests. Assumes nothing.
+-- what it says, which passes the tests.
 use Rattle.std.proofs.Common.{◌≡◌, ℕ, ◌%◌, ◌≤◌, ◌<◌, true, false, not, ◌&&◌, List, [], ◌∷◌, length, get_or, refl, ap, ◌∙◌, arith, Option, Some, None, Ok, eqb-true, eqb}
 use Rattle.std.proofs.lemmas.Bool.{false≢true, not-false, not-true}
 use Rattle.std.proofs.lemmas.Slice.Eq.{bytes_eq-Decides}

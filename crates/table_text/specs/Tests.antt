@@ -1,4 +1,4 @@
--- The tests by which a table value is found to be one that a text gives: those of the reader, on a table that is there already. Assumes nothing.
+-- The tests by which a table value is found to be one that a text gives: those of the reader, on a table that is there already.
 use Rattle.std.specs.Prelude.{ℕ, Bool, true, not, ◌&&◌, List, [], ◌∷◌, ◌++◌, drop, replicate, is_ok, nat_le, nat_lt, ◌==◌}
 use Rattle.std.specs.List.{list_all}
 use Rattle.std.specs.Str.{bytes_eq}

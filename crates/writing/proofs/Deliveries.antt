@@ -1,4 +1,4 @@
--- Deliveries of a text: where it fits it is put at the buffer's start. How long the line of a refusal is. Assumes nothing.
+-- Deliveries of a text: where it fits it is put at the buffer's start. How long the line of a refusal is.
 use Rattle.std.proofs.Common.{◌≡◌, refl, ℕ, ◌≤◌, ◌<◌, ◌^◌, List, length, arith, length-append, Result, Ok, Err, le-leb}
 use Rattle.std.proofs.lemmas.Bool.{lt-leb}
 use Rattle.table.specs.declared.refusals.Reason.TheVariants.{ShortBuffer}

@@ -1,4 +1,4 @@
--- The hex digits of a number: how many there are, and those of a number that is put together from words. Assumes nothing.
+-- The hex digits of a number: how many there are, and those of a number that is put together from words.
 use Rattle.std.proofs.Common.{ℕ, zero, suc, ◌+◌, ◌-◌, ◌*◌, ◌/◌, ◌%◌, ◌^◌, ◌≤◌, ◌<◌, ◌≡◌, refl, sym, ap, ap₂, ◌∙◌, List, [], ◌∷◌, ◌++◌, append_assoc, append-nil, add-zero, div-one, mul_assoc, arith, lit<, length, length-append, pow-add, shr-shr}
 use Rattle.std.proofs.Math.Decide.{dec_le}
 use Rattle.std.proofs.Math.Nat.{sub-zero, sub-add-eq}

@@ -1,4 +1,4 @@
--- The field of a set and its reading: what is written is read as the set, and a field that is read as a set is what is written of it. Assumes nothing.
+-- The field of a set and its reading: what is written is read as the set, and a field that is read as a set is what is written of it.
 use Rattle.std.proofs.Common.{ℕ, zero, suc, ◌+◌, ◌-◌, ◌*◌, ◌/◌, ◌%◌, ◌^◌, ◌≤◌, ◌<◌, ◌≡◌, refl, sym, ap, ◌∙◌, subst, Bool, true, false, ◌&&◌, cond, List, [], ◌∷◌, ◌++◌, lt_of_lt_of_le, mod-lt, mod-eq_of_lt, zero-mul, zero-add, arith, leb, ltb, lit<, length, pow-add, pow_mono, pow_pos, shr_lt, ltb-true, ltb-false, lt-ltb, le-leb}
 use Rattle.std.proofs.Math.Arith.{lt-one, digits_lt}
 use Rattle.std.proofs.Math.Bool.{and-eq-true_iff}

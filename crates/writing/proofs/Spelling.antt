@@ -1,4 +1,4 @@
--- The digits of a number: how they follow from one another, how many there are, and how they are put where they belong. Assumes nothing.
+-- The digits of a number: how they follow from one another, how many there are, and how they are put where they belong.
 use Rattle.std.proofs.Common.{◌≡◌, refl, sym, ap, ◌∙◌, ℕ, zero, suc, ◌+◌, ◌*◌, ◌/◌, ◌%◌, ◌^◌, ◌≤◌, ◌<◌, List, [], ◌∷◌, ◌++◌, length, drop, length-append, append_assoc, arith, pow-suc, mod-eq_of_lt, add-one, lt-ltb, le-ltb, shr-shr}
 use Rattle.std.proofs.Math.Decide.{dec_lt}
 use Rattle.std.proofs.Math.ListN.{set}

@@ -1,4 +1,4 @@
--- What a writer of a whole text answers, and what the buffer then holds. Assumes nothing.
+-- What a writer of a whole text answers, and what the buffer then holds.
 use Rattle.std.specs.Prelude.{ℕ, ◌≡◌, List, ◌++◌, length, drop, Result, Ok, Err, if◌then◌else◌, nat_le}
 use Rattle.table.specs.declared.refusals.Reason.TheVariants.{ShortBuffer}
 use Rattle.table.specs.declared.refusals.Refusal.{Refusal}

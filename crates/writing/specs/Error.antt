@@ -1,4 +1,4 @@
--- The line of a refusal. Assumes nothing.
+-- The line of a refusal.
 use Rattle.std.specs.Prelude.{ℕ, List, [], ◌∷◌}
 use Rattle.table.specs.declared.refusals.Refusal.{Refusal}
 use Rattle.table.specs.Numbers.{reason_number}

@@ -1,4 +1,4 @@
--- A set of cache sets as a field of a table text, and whether a field can hold it. Assumes nothing.
+-- A set of cache sets as a field of a table text, and whether a field can hold it.
 use Rattle.std.specs.Prelude.{ℕ, ◌+◌, ◌-◌, ◌*◌, ◌/◌, ◌^◌, Bool, ◌&&◌, List, [], ◌∷◌, nat_lt}
 use Rattle.cache.specs.declared.sets.CacheSet.{CacheSet}
 use Rattle.cache.specs.Words.{number_of}

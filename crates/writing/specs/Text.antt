@@ -1,4 +1,4 @@
--- The text of a number, of a field and of a line. Assumes nothing.
+-- The text of a number, of a field and of a line.
 use Rattle.std.specs.Prelude.{ℕ, zero, suc, ◌+◌, ◌/◌, ◌%◌, Bool, true, false, List, [], ◌∷◌, ◌++◌, flat_map, if◌then◌else◌, nat_lt}
 
 -- the byte of a digit

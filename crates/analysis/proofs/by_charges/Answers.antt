@@ -1,4 +1,4 @@
--- `analysis::by_charges` meets its contract. Assumes nothing.
+-- `analysis::by_charges` meets its contract.
 use Rattle.std.proofs.Common.{◌∙◌}
 use Rattle.analysis.proofs.JoinLaws.{row-few}
 use Rattle.analysis.proofs.AnswerLaws.{row-handed, least-by-row}

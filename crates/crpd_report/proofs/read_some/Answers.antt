@@ -1,4 +1,4 @@
--- `read_some` meets its contract. Assumes nothing.
+-- `read_some` meets its contract.
 use Rattle.std.proofs.KnownBytes.{Keeps-trans}
 use Rattle.crpd_report.proofs.read_some.Goals as goal
 

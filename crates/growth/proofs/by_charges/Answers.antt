@@ -1,4 +1,4 @@
--- `growth::by_charges` meets its contract. Assumes nothing.
+-- `growth::by_charges` meets its contract.
 use Rattle.std.proofs.Common.{◌+◌, ◌/◌, ◌≤◌, sym, ap, ◌∙◌, arith}
 use Rattle.analysis.proofs.JoinLaws.{row-few}
 use Rattle.report.specs.Verdicts.{has_response}

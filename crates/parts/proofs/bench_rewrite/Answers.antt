@@ -1,4 +1,4 @@
--- A table that was read is accepted. Assumes nothing.
+-- A table that was read is accepted.
 use Rattle.std.proofs.Common.{sym}
 use Rattle.parts.proofs.bench_rewrite.Goals as goal
 

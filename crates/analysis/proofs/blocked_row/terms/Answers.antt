@@ -1,4 +1,4 @@
--- `blocked_row::terms` meets its contract. Assumes nothing.
+-- `blocked_row::terms` meets its contract.
 use Rattle.std.proofs.Common.{ℕ, ap, ◌∙◌, arith}
 use Rattle.search.specs.Demand.{term_of}
 use Rattle.search.proofs.FrontLaws.{front-none, front-next}

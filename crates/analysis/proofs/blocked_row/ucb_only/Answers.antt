@@ -1,4 +1,4 @@
--- `blocked_row::ucb_only` meets its contract. Assumes nothing.
+-- `blocked_row::ucb_only` meets its contract.
 use Rattle.std.proofs.Common.{arith}
 use Rattle.analysis.proofs.JoinLaws.{joined-past}
 use Rattle.analysis.proofs.blocked_row.ucb_only.Goals as goal

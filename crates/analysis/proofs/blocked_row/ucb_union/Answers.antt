@@ -1,4 +1,4 @@
--- `blocked_row::ucb_union` meets its contract. Assumes nothing.
+-- `blocked_row::ucb_union` meets its contract.
 use Rattle.std.proofs.Common.{◌≡◌, ◌+◌, ◌-◌, ap, ap₂, ◌∙◌, arith}
 use Rattle.cache.specs.Sets.{Set, ◌∪◌, ◌∩◌, size}
 use Rattle.cache.specs.Words.{members}

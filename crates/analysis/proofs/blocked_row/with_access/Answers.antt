@@ -1,4 +1,4 @@
--- `blocked_row::with_access` meets its contract. Assumes nothing.
+-- `blocked_row::with_access` meets its contract.
 use Rattle.std.proofs.Common.{sym, ap, ◌∙◌, arith}
 use Rattle.cache.specs.Sets.{Set, ◌∪◌}
 use Rattle.cache.specs.Words.{members}

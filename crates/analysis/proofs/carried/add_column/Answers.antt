@@ -1,4 +1,4 @@
--- `carried::add_column` meets its contract. Assumes nothing.
+-- `carried::add_column` meets its contract.
 use Rattle.std.proofs.Common.{ap, ◌∙◌, arith}
 use Rattle.cache.specs.Sets.{size}
 use Rattle.cache.specs.Words.{members}

@@ -1,4 +1,4 @@
--- `carried::ecbs_down_to` meets its contract: one position more at the end of the union in the column above, or of none. Assumes nothing.
+-- `carried::ecbs_down_to` meets its contract: one position more at the end of the union in the column above, or of none.
 use Rattle.std.proofs.Common.{◌≡◌, ◌+◌, ◌-◌, sym, ap, ◌∙◌, arith}
 use Rattle.cache.specs.Words.{members}
 use Rattle.cache.proofs.SetLaws.{union-empty}

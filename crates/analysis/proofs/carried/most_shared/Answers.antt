@@ -1,4 +1,4 @@
--- `carried::most_shared` meets its contract. Assumes nothing.
+-- `carried::most_shared` meets its contract.
 use Rattle.std.proofs.Common.{sym, arith}
 use Rattle.cache.specs.Sets.{◌∩◌, size}
 use Rattle.cache.specs.Words.{members}

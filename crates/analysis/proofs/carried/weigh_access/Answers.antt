@@ -1,4 +1,4 @@
--- `carried::weigh_access` meets its contract: above its ceiling the terms are those with the access. Assumes nothing.
+-- `carried::weigh_access` meets its contract: above its ceiling the terms are those with the access.
 use Rattle.std.proofs.Common.{◌≡◌, ◌<◌, arith}
 use Rattle.analysis.proofs.ColumnLaws.{column-small, next-small, under-term}
 use Rattle.analysis.proofs.TermLaws.{put-long, has-none, has-next, has-rest, joined}

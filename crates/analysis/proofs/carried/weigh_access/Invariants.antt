@@ -1,4 +1,4 @@
--- `carried::weigh_access`: the terms before j are those with the access. Assumes nothing.
+-- `carried::weigh_access`: the terms before j are those with the access.
 use Rattle.analysis.specs.Costs.{term_at, term_under}
 use Rattle.analysis.specs.Carried.{Long, HasTerms}
 use Rattle.analysis.proofs.carried.weigh_access.Given as goal

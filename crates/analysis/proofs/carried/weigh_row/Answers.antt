@@ -1,4 +1,4 @@
--- `carried::weigh_row` meets its contract: the columns before j are carried past row i, and their terms are put in. Assumes nothing.
+-- `carried::weigh_row` meets its contract: the columns before j are carried past row i, and their terms are put in.
 use Rattle.std.proofs.Common.{◌<◌, ap, arith}
 use Rattle.cache.specs.Words.{members}
 use Rattle.table.specs.declared.tasks.Task.{Task}

@@ -1,4 +1,4 @@
--- `carried::weigh_row`: the columns before j are carried past row i, and their terms are put in. Assumes nothing.
+-- `carried::weigh_row`: the columns before j are carried past row i, and their terms are put in.
 use Rattle.analysis.specs.Costs.{term_at}
 use Rattle.analysis.specs.Carried.{Passing, Long, HasTerms}
 use Rattle.analysis.proofs.carried.weigh_row.Given as goal

@@ -1,4 +1,4 @@
--- `need::explained` meets its contract, by the method. Assumes nothing.
+-- `need::explained` meets its contract, by the method.
 use Rattle.std.proofs.Common.{ap₂, ◌∙◌}
 use Rattle.analysis.specs.Needs.{smaller_of, need_of}
 use Rattle.analysis.proofs.need.explained.Goals as goal

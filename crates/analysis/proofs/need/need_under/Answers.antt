@@ -1,4 +1,4 @@
--- `need::need_under` meets its contract. Assumes nothing.
+-- `need::need_under` meets its contract.
 use Rattle.std.proofs.Common.{◌≡◌, ◌<◌, length, refl, sym, ap, ◌∙◌, arith}
 use Rattle.table.specs.Accesses.{plain_access}
 use Rattle.analysis.specs.Analysis.{least_under}

@@ -1,4 +1,4 @@
--- `one_row::charged` meets its contract: each arm fills the row of its method. Assumes nothing.
+-- `one_row::charged` meets its contract: each arm fills the row of its method.
 use Rattle.std.proofs.Common.{arith}
 use Rattle.analysis.proofs.OneRowLaws.{charged-nothing}
 use Rattle.analysis.proofs.one_row.charged.Goals as goal

@@ -1,4 +1,4 @@
--- `one_row::ecb_only`: the charges from j on are in the row. Assumes nothing.
+-- `one_row::ecb_only`: the charges from j on are in the row.
 use Rattle.analysis.specs.declared.costs.Single.TheVariants.{EcbOnly}
 use Rattle.analysis.specs.Row.{Charged}
 use Rattle.analysis.proofs.one_row.ecb_only.Given as goal

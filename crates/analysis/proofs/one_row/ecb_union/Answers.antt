@@ -1,4 +1,4 @@
--- `one_row::ecb_union` meets its contract. Assumes nothing.
+-- `one_row::ecb_union` meets its contract.
 use Rattle.std.proofs.Common.{◌≡◌, ◌+◌, ◌-◌, arith}
 use Rattle.analysis.proofs.EvictedLaws.{evicted-none, evicted-next}
 use Rattle.analysis.proofs.one_row.ecb_union.Goals as goal

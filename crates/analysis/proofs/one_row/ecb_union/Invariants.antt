@@ -1,4 +1,4 @@
--- `one_row::ecb_union`: `Evicted`. Assumes nothing.
+-- `one_row::ecb_union`: `Evicted`.
 use Rattle.analysis.proofs.EvictedLaws.{Evicted}
 use Rattle.analysis.proofs.one_row.ecb_union.Given as goal
 

@@ -1,4 +1,4 @@
--- `one_row::evictors` meets its contract. Assumes nothing.
+-- `one_row::evictors` meets its contract.
 use Rattle.std.proofs.Common.{refl, ap, ◌∙◌, arith}
 use Rattle.cache.specs.Words.{members}
 use Rattle.cache.proofs.WordLaws.{members-empty}

@@ -1,4 +1,4 @@
--- `one_row::evictors`: the unions down to each position before j are there, and `above` is the last of them. Assumes nothing.
+-- `one_row::evictors`: the unions down to each position before j are there, and `above` is the last of them.
 use Rattle.std.proofs.Common.{◌≡◌}
 use Rattle.cache.specs.Words.{members}
 use Rattle.search.specs.Positions.{hp}

@@ -1,4 +1,4 @@
--- `one_row::ucb_only` meets its contract. Assumes nothing.
+-- `one_row::ucb_only` meets its contract.
 use Rattle.std.proofs.Common.{ℕ, ◌≡◌, ◌+◌, ◌-◌, ap, ◌∙◌, arith}
 use Rattle.cache.specs.Sets.{size}
 use Rattle.cache.specs.Words.{members}

@@ -1,4 +1,4 @@
--- `one_row::ucb_only`: the charges from j on are in the row, and `most` is the largest UCB below j. Assumes nothing.
+-- `one_row::ucb_only`: the charges from j on are in the row, and `most` is the largest UCB below j.
 use Rattle.std.proofs.Common.{◌≡◌, ◌+◌}
 use Rattle.cache.specs.Sets.{size}
 use Rattle.search.specs.Positions.{between}

@@ -1,4 +1,4 @@
--- `rows::by_row` meets its contract: each search goes on from a cheaper one. Assumes nothing.
+-- `rows::by_row` meets its contract: each search goes on from a cheaper one.
 use Rattle.analysis.specs.declared.costs.Single.TheVariants.{None, EcbOnly, UcbOnly, UcbUnion, EcbUnion}
 use Rattle.analysis.proofs.RowLaws.{row-handed, first, next, left, dearer, with-one}
 use Rattle.analysis.proofs.rows.by_row.Goals as goal

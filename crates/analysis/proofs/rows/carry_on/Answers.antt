@@ -1,4 +1,4 @@
--- `rows::carry_on` meets its contract. Assumes nothing.
+-- `rows::carry_on` meets its contract.
 use Rattle.std.proofs.Common.{◌≡◌, ◌+◌, ◌-◌, refl, arith}
 use Rattle.search.proofs.CountLaws.{ones-started}
 use Rattle.table.specs.Accesses.{plain_access}

@@ -1,4 +1,4 @@
--- `rows::longest` meets its contract: one of the first n accesses that may block is found, or none may. Assumes nothing.
+-- `rows::longest` meets its contract: one of the first n accesses that may block is found, or none may.
 use Rattle.analysis.proofs.RowLaws.{LongestOf}
 use Rattle.analysis.proofs.rows.longest.Given as goal
 

@@ -1,4 +1,4 @@
--- `rows::over_all` meets its contract. Assumes nothing.
+-- `rows::over_all` meets its contract.
 use Rattle.std.proofs.Common.{ℕ, ◌≡◌, ◌<◌, refl, sym, ap, ◌∙◌, arith, take}
 use Rattle.table.specs.declared.accesses.Access.{Access}
 use Rattle.table.specs.Accesses.{blocking, plain_access}

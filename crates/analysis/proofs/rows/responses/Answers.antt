@@ -1,4 +1,4 @@
--- `rows::responses` meets its contract. Assumes nothing.
+-- `rows::responses` meets its contract.
 use Rattle.std.proofs.Common.{refl, arith}
 use Rattle.search.proofs.FrontLaws.{front-none, front-next}
 use Rattle.analysis.specs.Rows.{no_row, row_of}

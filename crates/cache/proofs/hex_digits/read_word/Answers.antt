@@ -1,4 +1,3 @@
--- Assumes nothing.
 use Rattle.std.proofs.Common.{rules, ◌≡◌, sym, Some, ◌∙◌}
 use Rattle.cache.specs.Hex.{hex_digit}
 use Rattle.cache.proofs.HexLaws.{begin, ended, no_digit, room, one_more, digit_lt}

@@ -1,4 +1,4 @@
--- Word by word, reading on from the number so far gives what the whole field gives. Assumes nothing.
+-- Word by word, reading on from the number so far gives what the whole field gives.
 use Rattle.std.proofs.Common.{◌≡◌, ℕ, ◌-◌, ◌≤◌, List, Some, arith, drop, length, subst, sym, take}
 use Rattle.cache.specs.Hex.{read_hex}
 use Rattle.cache.proofs.HexLaws.{Reading, begin, ended, no_word, word_more}

@@ -1,4 +1,4 @@
--- The next task is as it was, and then scaled too. Assumes nothing.
+-- The next task is as it was, and then scaled too.
 use Rattle.std.proofs.Common.{ap, ◌∙◌, arith}
 use Rattle.growth.specs.Scaling.{scaled_by}
 use Rattle.growth.proofs.ScaledLaws.{next-small, next-scaled, first-all, with_tasks}

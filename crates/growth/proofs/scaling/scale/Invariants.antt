@@ -1,4 +1,4 @@
--- The loop's invariant: the first tasks are scaled, and the others are as they were. Assumes nothing.
+-- The loop's invariant: the first tasks are scaled, and the others are as they were.
 use Rattle.std.proofs.Common.{◌≡◌}
 use Rattle.growth.proofs.ScaledLaws.{scaled_first}
 use Rattle.growth.proofs.scaling.scale.Given as goal

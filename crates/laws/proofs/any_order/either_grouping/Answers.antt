@@ -1,4 +1,4 @@
--- `any_order::either_grouping` meets its contract: union is associative. Assumes nothing.
+-- `any_order::either_grouping` meets its contract: union is associative.
 use Rattle.std.proofs.Common.{rules}
 use Rattle.cache.specs.Words.{members}
 use Rattle.cache.proofs.SetLaws.{union_assoc}

@@ -1,4 +1,4 @@
--- `any_order::either_way_round` meets its contract: union is commutative. Assumes nothing.
+-- `any_order::either_way_round` meets its contract: union is commutative.
 use Rattle.std.proofs.Common.{◌∙◌, rules}
 use Rattle.cache.proofs.SetLaws.{union_comm}
 use Rattle.laws.proofs.ReturnLaws.{both-give}

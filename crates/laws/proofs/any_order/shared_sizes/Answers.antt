@@ -1,4 +1,4 @@
--- `any_order::shared_sizes` meets its contract: the law of sizes. Assumes nothing.
+-- `any_order::shared_sizes` meets its contract: the law of sizes.
 use Rattle.std.proofs.Common.{◌≡◌, arith}
 use Rattle.cache.specs.Sets.{◌∪◌, ◌∩◌, size}
 use Rattle.cache.specs.Words.{members}

@@ -1,4 +1,4 @@
--- `any_order::with_itself` meets its contract: union is idempotent. Assumes nothing.
+-- `any_order::with_itself` meets its contract: union is idempotent.
 use Rattle.std.proofs.Common.{refl, ◌∙◌, rules}
 use Rattle.cache.proofs.SetLaws.{union_self}
 use Rattle.laws.proofs.ReturnLaws.{both-give}

@@ -1,4 +1,4 @@
--- Two reports of one text agree. Assumes nothing.
+-- Two reports of one text agree.
 use Rattle.laws.proofs.AnyWorker.{report-calls-agree}
 use Rattle.laws.proofs.any_worker.reported_twice.Goals as goal
 

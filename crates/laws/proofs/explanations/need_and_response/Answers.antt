@@ -1,4 +1,4 @@
--- `laws::explanations::need_and_response` meets its contract. Assumes nothing.
+-- `laws::explanations::need_and_response` meets its contract.
 use Rattle.laws.proofs.ExplanationLaws.{needed-as-answered}
 use Rattle.laws.proofs.explanations.need_and_response.Goals as goal
 

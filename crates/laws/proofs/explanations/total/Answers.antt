@@ -1,4 +1,4 @@
--- `laws::explanations::total` meets its contract. Assumes nothing.
+-- `laws::explanations::total` meets its contract.
 use Rattle.std.proofs.Common.{◌≡◌, ap, ◌∙◌}
 use Rattle.cache.specs.declared.units.Ticks.{Ticks}
 use Rattle.laws.specs.Explanations.{sum_of}

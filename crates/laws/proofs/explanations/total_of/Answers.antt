@@ -1,4 +1,4 @@
--- `laws::explanations::total_of` meets its contract, one line after the other. Assumes nothing.
+-- `laws::explanations::total_of` meets its contract, one line after the other.
 use Rattle.std.proofs.Common.{◌+◌, sym, ap, ◌∙◌, arith, zero-le}
 use Rattle.search.proofs.PositionLaws.{fold-none, fold_next}
 use Rattle.table.specs.Tables.{at}

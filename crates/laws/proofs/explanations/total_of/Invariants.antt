@@ -1,4 +1,4 @@
--- The total is the sum of the lines so far. Assumes nothing.
+-- The total is the sum of the lines so far.
 use Rattle.std.proofs.Common.{◌≡◌, ◌+◌, ◌*◌, ◌≤◌}
 use Rattle.search.specs.Positions.{between, fold_by}
 use Rattle.table.specs.Tables.{at}

@@ -1,4 +1,4 @@
--- `laws::figures::charge` meets its contract. Assumes nothing.
+-- `laws::figures::charge` meets its contract.
 use Rattle.std.proofs.Common.{arith, zero-le}
 use Rattle.laws.proofs.FigureLaws.{charge-figured}
 use Rattle.laws.proofs.figures.charge.Goals as goal

@@ -1,4 +1,4 @@
--- `laws::figures::response` meets its contract. Assumes nothing.
+-- `laws::figures::response` meets its contract.
 use Rattle.laws.proofs.FigureLaws.{figured}
 use Rattle.laws.proofs.figures.response.Goals as goal
 

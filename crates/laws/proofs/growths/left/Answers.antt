@@ -1,4 +1,4 @@
--- `laws::growths::left` meets its contract. Assumes nothing.
+-- `laws::growths::left` meets its contract.
 use Rattle.laws.proofs.GrowthLaws.{is-growth}
 use Rattle.laws.proofs.growths.left.Goals as goal
 

@@ -1,4 +1,4 @@
--- `laws::orders::demand_in_order` meets its contract. Assumes nothing.
+-- `laws::orders::demand_in_order` meets its contract.
 use Rattle.std.proofs.Common.{ℕ, ◌≡◌, refl, ap, ◌∙◌, length, take, List, arith}
 use Rattle.std.proofs.Math.Seq.{take-length}
 use Rattle.search.specs.Positions.{fold_by}

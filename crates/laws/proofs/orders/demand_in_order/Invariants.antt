@@ -1,4 +1,4 @@
--- The sum is the demand under the terms so far, and each adds so much at the most. Assumes nothing.
+-- The sum is the demand under the terms so far, and each adds so much at the most.
 use Rattle.std.proofs.Common.{◌≡◌, ◌+◌, ◌*◌, ◌≤◌, take}
 use Rattle.search.specs.Terms.{term_in}
 use Rattle.laws.specs.Equation.{demand_over}

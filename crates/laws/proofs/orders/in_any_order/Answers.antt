@@ -1,4 +1,4 @@
--- `laws::orders::in_any_order` meets its contract. Assumes nothing.
+-- `laws::orders::in_any_order` meets its contract.
 use Rattle.std.proofs.Common.{sym, ◌∙◌}
 use Rattle.laws.proofs.AnyOrder.{response-any-order}
 use Rattle.laws.proofs.orders.in_any_order.Goals as goal

@@ -1,4 +1,4 @@
--- `laws::orders::in_two_tables` meets its contract. Assumes nothing.
+-- `laws::orders::in_two_tables` meets its contract.
 use Rattle.laws.proofs.OrderLaws.{easier-first}
 use Rattle.laws.proofs.orders.in_two_tables.Goals as goal
 

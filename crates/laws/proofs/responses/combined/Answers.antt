@@ -1,4 +1,4 @@
--- `laws::responses::combined` meets its contract. Assumes nothing.
+-- `laws::responses::combined` meets its contract.
 use Rattle.laws.proofs.ResponseLaws.{is-combined}
 use Rattle.laws.proofs.responses.combined.Goals as goal
 

@@ -1,4 +1,4 @@
--- `laws::responses::counted` meets its contract. Assumes nothing.
+-- `laws::responses::counted` meets its contract.
 use Rattle.laws.proofs.ResponseLaws.{is-response}
 use Rattle.laws.proofs.responses.counted.Goals as goal
 

@@ -1,4 +1,4 @@
--- `laws::solutions::smallest` meets its contract: the search starts from one activation of each term. Assumes nothing.
+-- `laws::solutions::smallest` meets its contract: the search starts from one activation of each term.
 use Rattle.search.proofs.CountLaws.{ones-started}
 use Rattle.laws.proofs.SolutionLaws.{is-smallest}
 use Rattle.laws.proofs.solutions.smallest.Goals as goal

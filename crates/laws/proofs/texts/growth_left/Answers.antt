@@ -1,4 +1,4 @@
--- `laws::texts::growth_left` meets its contract. Assumes nothing.
+-- `laws::texts::growth_left` meets its contract.
 use Rattle.laws.proofs.TextLaws.{text-growth}
 use Rattle.laws.proofs.texts.growth_left.Goals as goal
 

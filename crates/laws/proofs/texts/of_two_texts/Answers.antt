@@ -1,4 +1,4 @@
--- `laws::texts::of_two_texts` meets its contract. Assumes nothing.
+-- `laws::texts::of_two_texts` meets its contract.
 use Rattle.laws.proofs.TextLaws.{easier-text-first}
 use Rattle.laws.proofs.texts.of_two_texts.Goals as goal
 

@@ -1,4 +1,4 @@
--- `laws::texts::read_then_written` meets its contract. Assumes nothing.
+-- `laws::texts::read_then_written` meets its contract.
 use Rattle.std.proofs.Common.{arith}
 use Rattle.laws.proofs.TextLaws.{comes-back}
 use Rattle.laws.proofs.texts.read_then_written.Goals as goal

@@ -1,4 +1,4 @@
--- `laws::texts::written_then_read` meets its contract. Assumes nothing.
+-- `laws::texts::written_then_read` meets its contract.
 use Rattle.std.proofs.Common.{◌∙◌, arith}
 use Rattle.laws.proofs.TextLaws.{reads-again, read-back}
 use Rattle.laws.proofs.texts.written_then_read.Goals as goal

@@ -1,4 +1,4 @@
--- The lines stand in the draft, which is delivered whole. Assumes nothing.
+-- The lines stand in the draft, which is delivered whole.
 use Rattle.std.proofs.Common.{◌≡◌, ◌<◌, ℕ, sym, subst, ap, length, length-append, ◌≤◌, ◌+◌, ◌++◌, arith}
 use Rattle.table.specs.declared.Table.{Table}
 use Rattle.table.specs.Tables.{at}

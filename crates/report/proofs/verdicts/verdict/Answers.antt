@@ -1,4 +1,4 @@
--- A verdict is asked of the rows one by one. Assumes nothing.
+-- A verdict is asked of the rows one by one.
 use Rattle.std.proofs.Common.{◌∙◌, sym, length, ◌≤◌, rules, arith}
 use Rattle.std.proofs.lemmas.List.Folds.{list_all_at}
 use Rattle.std.proofs.Math.Seq.{take_all}

@@ -1,4 +1,4 @@
--- Each task so far has a response. Assumes nothing.
+-- Each task so far has a response.
 use Rattle.std.proofs.Common.{◌≡◌, true, take}
 use Rattle.std.specs.List.{list_all}
 use Rattle.report.specs.Verdicts.{has_response}

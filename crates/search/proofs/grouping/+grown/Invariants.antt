@@ -1,4 +1,4 @@
--- `grouping::grown` ends: the round is longer each time, and never too long. Assumes nothing.
+-- `grouping::grown` ends: the round is longer each time, and never too long.
 use Rattle.std.proofs.Common.{◌-◌}
 use Rattle.search.proofs.grouping.+grown.Given as goal
 

@@ -1,4 +1,4 @@
--- `grouping::choose` meets its contract: each turn makes a round that is short. Assumes nothing.
+-- `grouping::choose` meets its contract: each turn makes a round that is short.
 use Rattle.std.proofs.Common.{length}
 use Rattle.search.specs.Terms.{term_in}
 use Rattle.search.specs.Grouping.{Chosen}

@@ -1,4 +1,4 @@
--- `grouping::heaviest` meets its contract: a period that is taken is short. Assumes nothing.
+-- `grouping::heaviest` meets its contract: a period that is taken is short.
 use Rattle.std.proofs.Common.{◌≤◌}
 use Rattle.search.proofs.grouping.heaviest.Given as goal
 

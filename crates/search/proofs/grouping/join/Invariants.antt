@@ -1,4 +1,4 @@
--- `grouping::join` meets its contract: only terms that are taken come into a round. Assumes nothing.
+-- `grouping::join` meets its contract: only terms that are taken come into a round.
 use Rattle.std.proofs.Common.{length}
 use Rattle.search.specs.Terms.{term_in}
 use Rattle.search.specs.Grouping.{ShortTaken}

@@ -1,4 +1,4 @@
--- `grouping::longer` meets its contract: the best is the round or one that is joined. Assumes nothing.
+-- `grouping::longer` meets its contract: the best is the round or one that is joined.
 use Rattle.std.proofs.Common.{◌≤◌}
 use Rattle.search.proofs.grouping.longer.Given as goal
 

@@ -1,4 +1,4 @@
--- `grouping::set_apart` meets its contract: the classes before i are set. Assumes nothing.
+-- `grouping::set_apart` meets its contract: the classes before i are set.
 use Rattle.search.specs.Terms.{term_in}
 use Rattle.search.specs.Grouping.{ShortTaken}
 use Rattle.search.proofs.grouping.set_apart.Given as goal

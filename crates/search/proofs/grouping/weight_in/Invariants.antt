@@ -1,4 +1,4 @@
--- `grouping::weight_in` meets its contract: the sum is at most a bound for each term before i. Assumes nothing.
+-- `grouping::weight_in` meets its contract: the sum is at most a bound for each term before i.
 use Rattle.std.proofs.Common.{◌≤◌, ◌*◌}
 use Rattle.search.proofs.grouping.weight_in.Given as goal
 

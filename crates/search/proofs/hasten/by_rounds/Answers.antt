@@ -1,4 +1,4 @@
--- `hasten::by_rounds` meets its contract: the time that the loop has come to is below every solution. Assumes nothing.
+-- `hasten::by_rounds` meets its contract: the time that the loop has come to is below every solution.
 use Rattle.std.proofs.Common.{arith}
 use Rattle.search.proofs.LeastLaws.{found, past}
 use Rattle.search.proofs.hasten.by_rounds.Goals as goal

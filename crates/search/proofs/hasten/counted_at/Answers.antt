@@ -1,4 +1,4 @@
--- `hasten::counted_at` meets its contract: a term that is not taken adds what it asks for, and any other adds nothing. Assumes nothing.
+-- `hasten::counted_at` meets its contract: a term that is not taken adds what it asks for, and any other adds nothing.
 use Rattle.std.proofs.Common.{arith, le-leb}
 use Rattle.std.proofs.lemmas.Bool.{lt-leb}
 use Rattle.search.specs.Terms.{term_in}

@@ -1,4 +1,4 @@
--- `hasten::counted_at` meets its contract: the sum is what the terms before i ask for that are not taken. Assumes nothing.
+-- `hasten::counted_at` meets its contract: the sum is what the terms before i ask for that are not taken.
 use Rattle.std.proofs.Common.{◌≡◌, ◌+◌, ◌*◌, ◌≤◌}
 use Rattle.search.specs.Terms.{term_in}
 use Rattle.search.specs.Classes.{works_over, counted}

@@ -1,4 +1,4 @@
--- `hasten::leap` meets its contract: what is known of the rounds at any time, or in the windows of one step, bounds each solution. Assumes nothing.
+-- `hasten::leap` meets its contract: what is known of the rounds at any time, or in the windows of one step, bounds each solution.
 use Rattle.std.proofs.Common.{◌≡◌, ◌+◌, ◌*◌, length, arith}
 use Rattle.search.specs.Demand.{demand_of}
 use Rattle.search.specs.Terms.{term_in}

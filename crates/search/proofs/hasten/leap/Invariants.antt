@@ -1,4 +1,4 @@
--- `hasten::leap` meets its contract: no solution is below the best time so far, and the windows of the rounds before v are added up. Assumes nothing.
+-- `hasten::leap` meets its contract: no solution is below the best time so far, and the windows of the rounds before v are added up.
 use Rattle.std.proofs.Common.{◌≡◌, ◌⊎◌, ◌-◌, ◌≤◌, length}
 use Rattle.search.specs.Demand.{demand_of}
 use Rattle.search.specs.Terms.{term_in}

@@ -1,4 +1,4 @@
--- `hasten::part_of` meets its contract. Assumes nothing.
+-- `hasten::part_of` meets its contract.
 use Rattle.search.proofs.HastenLaws.{part-counted, part-shared}
 use Rattle.search.proofs.hasten.part_of.Goals as goal
 

@@ -1,4 +1,4 @@
--- `hasten::turn_at` meets its contract. Assumes nothing.
+-- `hasten::turn_at` meets its contract.
 use Rattle.std.proofs.Common.{◌≡◌, length, arith}
 use Rattle.search.proofs.DemandLaws.{demand-mono}
 use Rattle.search.specs.Terms.{term_in}

@@ -1,4 +1,4 @@
--- `hasten::turn_at` meets its contract. Assumes nothing.
+-- `hasten::turn_at` meets its contract.
 use Rattle.search.specs.Terms.{term_in}
 use Rattle.search.proofs.HastenLaws.{Turning}
 use Rattle.search.proofs.hasten.turn_at.Given as goal

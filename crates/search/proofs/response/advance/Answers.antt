@@ -1,4 +1,4 @@
--- `response::advance` meets its contract: the counts before i are raised and asked for, and the others stand. Assumes nothing.
+-- `response::advance` meets its contract: the counts before i are raised and asked for, and the others stand.
 use Rattle.std.proofs.Common.{◌<◌, length, sym, arith}
 use Rattle.search.proofs.CountLaws.{asks-bound, kept-few, asked-none, asked-raised, passed_none, passed-next}
 use Rattle.search.proofs.response.advance.Goals as goal

@@ -1,4 +1,4 @@
--- `response::advance` meets its contract: the counts before i are raised and asked for, and the others stand. Assumes nothing.
+-- `response::advance` meets its contract: the counts before i are raised and asked for, and the others stand.
 use Rattle.std.proofs.Common.{◌≡◌, ◌+◌, ◌*◌, ◌≤◌}
 use Rattle.search.specs.Terms.{term_in}
 use Rattle.search.specs.Counts.{asked_of}

@@ -1,4 +1,4 @@
--- `response::asked` meets its contract: the sum is what the counts before i ask for, and at most a bound for each. Assumes nothing.
+-- `response::asked` meets its contract: the sum is what the counts before i ask for, and at most a bound for each.
 use Rattle.std.proofs.Common.{arith}
 use Rattle.search.proofs.CountLaws.{asks-kept, asked-none, asked-next}
 use Rattle.search.proofs.response.asked.Goals as goal

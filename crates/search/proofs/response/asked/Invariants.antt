@@ -1,4 +1,4 @@
--- `response::asked` meets its contract: the sum is what the counts before i ask for, and at most a bound for each. Assumes nothing.
+-- `response::asked` meets its contract: the sum is what the counts before i ask for, and at most a bound for each.
 use Rattle.std.proofs.Common.{◌≡◌, ◌+◌, ◌*◌, ◌≤◌}
 use Rattle.search.specs.Terms.{term_in}
 use Rattle.search.specs.Counts.{asked_of}

@@ -1,4 +1,4 @@
--- `response::finish` meets its contract: the counts are raised to a time that no solution is below. Assumes nothing.
+-- `response::finish` meets its contract: the counts are raised to a time that no solution is below.
 use Rattle.std.proofs.Common.{ap, arith}
 use Rattle.search.specs.declared.demand.Response.TheVariants.{Within}
 use Rattle.search.specs.Least.{later}

@@ -1,4 +1,4 @@
--- `response::firsts` meets its contract: the counts before i stand at the front. Assumes nothing.
+-- `response::firsts` meets its contract: the counts before i stand at the front.
 use Rattle.std.proofs.Common.{arith}
 use Rattle.search.specs.Terms.{term_in}
 use Rattle.search.proofs.FrontLaws.{front-none, front-next}

@@ -1,4 +1,4 @@
--- `response::firsts` meets its contract: the counts before i stand at the front. Assumes nothing.
+-- `response::firsts` meets its contract: the counts before i stand at the front.
 use Rattle.std.proofs.Common.{◌≡◌}
 use Rattle.search.specs.Positions.{front}
 use Rattle.search.specs.Terms.{term_in}

@@ -1,4 +1,4 @@
--- `response::least` meets its contract: no answer is sooner than 0. Assumes nothing.
+-- `response::least` meets its contract: no answer is sooner than 0.
 use Rattle.std.proofs.Common.{sym, ◌∙◌}
 use Rattle.search.proofs.LaterLaws.{later_first}
 use Rattle.search.proofs.response.least.Goals as goal

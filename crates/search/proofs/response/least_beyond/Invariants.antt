@@ -1,5 +1,4 @@
 -- `response::least_beyond` meets its contract: no solution is below what the counts ask for, and where all of them hold up to it that is one.
--- Assumes nothing.
 use Rattle.std.proofs.Common.{◌≡◌, length}
 use Rattle.search.specs.Terms.{term_in}
 use Rattle.search.specs.Counts.{asked_of, Started}

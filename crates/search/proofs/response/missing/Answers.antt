@@ -1,4 +1,4 @@
--- `response::missing` meets its contract: the first activation that is missing is all, or the others are divided for. Assumes nothing.
+-- `response::missing` meets its contract: the first activation that is missing is all, or the others are divided for.
 use Rattle.std.proofs.Common.{arith}
 use Rattle.search.proofs.CountLaws.{missing-most, missing-after, missing-one}
 use Rattle.search.proofs.response.missing.Goals as goal

@@ -1,4 +1,4 @@
--- `rounds::add_term` meets its contract: it is added at the ticks before x, and the others stand. Assumes nothing.
+-- `rounds::add_term` meets its contract: it is added at the ticks before x, and the others stand.
 use Rattle.std.proofs.Common.{◌+◌}
 use Rattle.search.specs.Rounds.{Near}
 use Rattle.search.proofs.RoundLaws.{Adding}

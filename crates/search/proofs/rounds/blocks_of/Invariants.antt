@@ -1,4 +1,4 @@
--- `rounds::blocks_of` meets its contract: the blocks before k have their least. Assumes nothing.
+-- `rounds::blocks_of` meets its contract: the blocks before k have their least.
 use Rattle.search.specs.Rounds.{Blocked}
 use Rattle.search.proofs.rounds.blocks_of.Given as goal
 

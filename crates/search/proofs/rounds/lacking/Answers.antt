@@ -1,4 +1,4 @@
--- `rounds::lacking` meets its contract: a term that is in the round is short, and one that is not adds nothing. Assumes nothing.
+-- `rounds::lacking` meets its contract: a term that is in the round is short, and one that is not adds nothing.
 use Rattle.std.proofs.Common.{length, arith, ◌≡◌, sym, ◌∙◌, ◌%◌, get_or}
 use Rattle.search.specs.Terms.{term_in}
 use Rattle.search.proofs.ShareLaws.{share-one}

@@ -1,4 +1,4 @@
--- `rounds::lacking` meets its contract: what the terms before i lack is added up. Assumes nothing.
+-- `rounds::lacking` meets its contract: what the terms before i lack is added up.
 use Rattle.search.specs.Terms.{term_in}
 use Rattle.search.specs.Rounds.{LacksIn}
 use Rattle.search.proofs.rounds.lacking.Given as goal

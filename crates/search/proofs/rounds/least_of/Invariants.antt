@@ -1,4 +1,4 @@
--- `rounds::least_of` meets its contract: it is no more than any number before i. Assumes nothing.
+-- `rounds::least_of` meets its contract: it is no more than any number before i.
 use Rattle.std.proofs.Common.{ℕ, ◌≤◌, ◌<◌, get_or}
 use Rattle.search.proofs.rounds.least_of.Given as goal
 

@@ -1,4 +1,4 @@
--- `rounds::left_by_taken` meets its contract: a term that is taken adds its share, and any other adds nothing. Assumes nothing.
+-- `rounds::left_by_taken` meets its contract: a term that is taken adds its share, and any other adds nothing.
 use Rattle.std.proofs.Common.{arith, lt-ltb, le-ltb}
 use Rattle.search.specs.Terms.{term_in}
 use Rattle.search.specs.Shares.{share_of}

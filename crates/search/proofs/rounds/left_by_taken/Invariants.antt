@@ -1,4 +1,4 @@
--- `rounds::left_by_taken` meets its contract: left is what the shares before i leave. Assumes nothing.
+-- `rounds::left_by_taken` meets its contract: left is what the shares before i leave.
 use Rattle.std.proofs.Common.{◌≡◌, ◌-◌}
 use Rattle.search.specs.Terms.{term_in}
 use Rattle.search.specs.Classes.{shares_over, taken}

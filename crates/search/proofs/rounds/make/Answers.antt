@@ -1,4 +1,4 @@
--- `rounds::make` meets its contract: the rounds together ask for what each does. Assumes nothing.
+-- `rounds::make` meets its contract: the rounds together ask for what each does.
 use Rattle.std.proofs.Common.{length, ◌≡◌, ◌+◌, ◌-◌, arith, get_or, below_more}
 use Rattle.search.specs.Terms.{term_in}
 use Rattle.search.specs.Classes.{taken}

@@ -1,4 +1,4 @@
--- `rounds::make` meets its contract: each turn makes the windows of a round, and those of the earlier ones stand. Assumes nothing.
+-- `rounds::make` meets its contract: each turn makes the windows of a round, and those of the earlier ones stand.
 use Rattle.std.proofs.Common.{◌≡◌, ℕ, ◌≤◌, ◌<◌, ◌*◌, get_or, length}
 use Rattle.search.specs.Terms.{term_in}
 use Rattle.search.specs.Classes.{before_class, AskMore}

@@ -1,4 +1,4 @@
--- `rounds::tabulate` meets its contract: the windows of each step stand beside those of the others. Assumes nothing.
+-- `rounds::tabulate` meets its contract: the windows of each step stand beside those of the others.
 use Rattle.std.proofs.Common.{refl}
 use Rattle.search.proofs.RoundLaws.{tabled}
 use Rattle.search.proofs.rounds.tabulate.Goals as goal

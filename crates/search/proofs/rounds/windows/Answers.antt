@@ -1,4 +1,4 @@
--- `rounds::windows` meets its contract: all windows are made when the loop ends. Assumes nothing.
+-- `rounds::windows` meets its contract: all windows are made when the loop ends.
 use Rattle.std.proofs.Common.{arith}
 use Rattle.search.proofs.RoundLaws.{opened}
 use Rattle.search.proofs.rounds.windows.Goals as goal

@@ -1,4 +1,4 @@
--- `rounds::windows` meets its contract: the windows before the k-th are made, and the other entries stand. Assumes nothing.
+-- `rounds::windows` meets its contract: the windows before the k-th are made, and the other entries stand.
 use Rattle.search.proofs.RoundLaws.{Opening}
 use Rattle.search.proofs.rounds.windows.Given as goal
 

@@ -1,4 +1,4 @@
--- `shares::left_by` meets its contract. Assumes nothing.
+-- `shares::left_by` meets its contract.
 use Rattle.std.proofs.Common.{arith}
 use Rattle.search.proofs.ShareLaws.{shares-none, shares-next}
 use Rattle.search.proofs.shares.left_by.Goals as goal

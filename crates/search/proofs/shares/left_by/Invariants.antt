@@ -1,4 +1,4 @@
--- `shares::left_by` meets its contract. Assumes nothing.
+-- `shares::left_by` meets its contract.
 use Rattle.std.proofs.Common.{◌≡◌, ◌-◌}
 use Rattle.search.specs.Terms.{term_in}
 use Rattle.search.specs.Shares.{shares_of}

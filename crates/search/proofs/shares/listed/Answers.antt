@@ -1,4 +1,4 @@
--- `shares::listed` meets its contract: the shares before i stand at the front. Assumes nothing.
+-- `shares::listed` meets its contract: the shares before i stand at the front.
 use Rattle.std.proofs.Common.{arith}
 use Rattle.search.specs.Terms.{term_in}
 use Rattle.search.specs.Shares.{share_of}

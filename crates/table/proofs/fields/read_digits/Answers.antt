@@ -1,4 +1,3 @@
--- Assumes nothing.
 use Rattle.std.proofs.Common.{◌-◌, get_or, arith}
 use Rattle.table.proofs.Numbers.{digits_step, digits-stop, digits-end, more-digits, digit-bounds}
 use Rattle.table.proofs.fields.read_digits.Goals as goal

@@ -1,5 +1,4 @@
 -- The loop's invariant: the digits passed say `v`, which they bound by a power of ten, and what is left to read, after `v`, is what was to be read.
--- Assumes nothing.
 use Rattle.std.proofs.Common.{◌≡◌, ◌<◌, ◌^◌, drop}
 use Rattle.table.specs.Fields.{read_digits}
 use Rattle.table.proofs.fields.read_digits.Given as goal

@@ -1,4 +1,3 @@
--- Assumes nothing.
 use Rattle.std.proofs.Common.{arith}
 use Rattle.table.proofs.FieldScan.{same-step, same-stop, same-end, same-lengths}
 use Rattle.table.proofs.fields.same_bytes.Goals as goal

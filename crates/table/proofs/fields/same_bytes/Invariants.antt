@@ -1,5 +1,4 @@
 -- The loop's invariant: the bytes from `k` on are the same just if all are.
--- Assumes nothing.
 use Rattle.std.proofs.Common.{◌≡◌, length, drop}
 use Rattle.std.specs.Str.{bytes_eq}
 use Rattle.table.proofs.fields.same_bytes.Given as goal

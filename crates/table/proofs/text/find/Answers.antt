@@ -1,4 +1,3 @@
--- Assumes nothing.
 use Rattle.table.proofs.First.{first-byte}
 use Rattle.table.proofs.text.find.Goals as goal
 

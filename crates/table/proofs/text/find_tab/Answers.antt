@@ -1,5 +1,4 @@
 -- A turn of the first loop passes its four bytes one by one.
--- Assumes nothing.
 use Rattle.std.proofs.Common.{ℕ, List, ◌≡◌, ◌+◌, ◌≤◌, length, get_or, refl, arith}
 use Rattle.table.proofs.Scan.{Scanned, step, stop, end}
 use Rattle.table.proofs.text.find_tab.Goals as goal

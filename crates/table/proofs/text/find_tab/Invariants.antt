@@ -1,5 +1,4 @@
 -- The invariant of both loops: the bytes before `i` hold no c. A turn of the first passes four of them.
--- Assumes nothing.
 use Rattle.std.proofs.Common.{◌-◌}
 use Rattle.table.proofs.Scan.{Scanned}
 use Rattle.table.proofs.text.find_tab.Given as goal

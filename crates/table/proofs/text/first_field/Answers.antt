@@ -1,4 +1,3 @@
--- Assumes nothing.
 use Rattle.std.proofs.Common.{sym, ◌∙◌}
 use Rattle.table.proofs.Found.{fields_step, fields_last}
 use Rattle.table.proofs.text.first_field.Goals as goal

@@ -1,4 +1,3 @@
--- Assumes nothing.
 use Rattle.std.proofs.Common.{sym, ◌∙◌}
 use Rattle.table.proofs.Found.{before-found, after-found, before-missing, after-missing}
 use Rattle.table.proofs.text.next_line.Goals as goal

@@ -1,4 +1,4 @@
--- One task after the other. Assumes nothing.
+-- One task after the other.
 use Rattle.std.proofs.Common.{sym, ◌∙◌, arith}
 use Rattle.table_text.proofs.NextLaws.{next-passes, next-fails, none-left}
 use Rattle.table_text.proofs.readable.are_next.Goals as goal

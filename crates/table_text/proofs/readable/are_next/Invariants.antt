@@ -1,4 +1,4 @@
--- What is left to test, below the tasks that passed, decides as much as all. Assumes nothing.
+-- What is left to test, below the tasks that passed, decides as much as all.
 use Rattle.std.proofs.Common.{◌≡◌, [], take, drop}
 use Rattle.table_text.specs.Tests.{are_next}
 use Rattle.table_text.proofs.readable.are_next.Given as goal

@@ -1,4 +1,4 @@
--- What the tests mean. Assumes nothing.
+-- What the tests mean.
 use Rattle.table_text.proofs.RoundTrip.{meant}
 use Rattle.table_text.proofs.readable.is_readable.Goals as goal
 

@@ -1,4 +1,4 @@
--- The digits of the four words, one after the other. Assumes nothing.
+-- The digits of the four words, one after the other.
 use Rattle.std.proofs.Common.{ap, arith, rules, length, length-append, append_assoc, ℕ}
 use Rattle.writing.proofs.Digits.{digits_long, marks-cut, marks-long, words_long}
 use Rattle.writing.proofs.marks.write_marks.Goals as goal

@@ -1,4 +1,4 @@
--- A digit, and those before it. Assumes nothing.
+-- A digit, and those before it.
 use Rattle.std.proofs.Common.{ℕ, ◌/◌, ap, arith, length, length-append}
 use Rattle.writing.proofs.Spelling.{spelled_low, spelled_high, spelled_short}
 use Rattle.writing.proofs.writer.+digits_in.Goals as goal

@@ -1,4 +1,4 @@
--- The digits from k on are there, and `left` has those before. Assumes nothing.
+-- The digits from k on are there, and `left` has those before.
 use Rattle.std.proofs.Common.{◌≡◌, ◌++◌, length, drop}
 use Rattle.writing.specs.Text.{spelled}
 use Rattle.writing.proofs.Spelling.{decimal_digits}

@@ -1,4 +1,4 @@
--- One digit more. Assumes nothing.
+-- One digit more.
 use Rattle.std.proofs.Common.{ℕ, ◌≡◌, refl, ◌*◌, ◌/◌, ◌^◌, ◌+◌, ◌-◌, ◌<◌, ◌≤◌, length, arith, ap, sym, ◌∙◌, div-one, add-one}
 use Rattle.std.proofs.Math.ListN.{length-set}
 use Rattle.std.proofs.Math.Seq.{take_all, take-suc-set}

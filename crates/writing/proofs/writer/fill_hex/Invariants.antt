@@ -1,4 +1,4 @@
--- The first k digits are there. Assumes nothing.
+-- The first k digits are there.
 use Rattle.std.proofs.Common.{◌≡◌, ◌*◌, ◌-◌, ◌/◌, ◌^◌, length, take}
 use Rattle.writing.specs.Text.{hex_digits}
 use Rattle.writing.proofs.writer.fill_hex.Given as goal

@@ -1,4 +1,4 @@
--- `one_row::shared::largest_shared` meets its contract. Assumes nothing.
+-- `one_row::shared::largest_shared` meets its contract.
 use Rattle.std.proofs.Common.{◌≡◌, arith}
 use Rattle.analysis.proofs.AheadLaws.{leads-next, leads-all}
 use Rattle.analysis.proofs.one_row.shared.largest_shared.Goals as goal

@@ -1,4 +1,4 @@
--- `one_row::shared::largest_shared`: none of the positions before k is ahead of the best. Assumes nothing.
+-- `one_row::shared::largest_shared`: none of the positions before k is ahead of the best.
 use Rattle.cache.specs.Words.{members}
 use Rattle.analysis.specs.Shared.{shared_of, AtMost}
 use Rattle.analysis.proofs.AheadLaws.{Leads}

@@ -1,4 +1,4 @@
--- `sets::CacheSet::from_field` meets its contract: the words that the digits say are those of the field's number. Assumes nothing.
+-- `sets::CacheSet::from_field` meets its contract: the words that the digits say are those of the field's number.
 use Rattle.std.proofs.Common.{rules, sym, ap, ◌∙◌, Some, option_map}
 use Rattle.cache.specs.Words.{number_of, words_of}
 use Rattle.cache.proofs.WordLaws.{words-number}

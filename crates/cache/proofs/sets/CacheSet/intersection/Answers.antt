@@ -1,4 +1,4 @@
--- `sets::CacheSet::intersection` meets its contract. Assumes nothing.
+-- `sets::CacheSet::intersection` meets its contract.
 use Rattle.std.proofs.Common.{rules}
 use Rattle.cache.proofs.WordLaws.{members-and}
 use Rattle.cache.proofs.sets.CacheSet.intersection.Goals as goal

@@ -1,4 +1,4 @@
--- `sets::CacheSet::size` meets its contract. Assumes nothing.
+-- `sets::CacheSet::size` meets its contract.
 use Rattle.std.proofs.Common.{rules, arith}
 use Rattle.cache.proofs.WordLaws.{size-members}
 use Rattle.cache.proofs.sets.CacheSet.size.Goals as goal

@@ -1,4 +1,4 @@
--- `sets::CacheSet::union` meets its contract. Assumes nothing.
+-- `sets::CacheSet::union` meets its contract.
 use Rattle.std.proofs.Common.{rules}
 use Rattle.cache.proofs.WordLaws.{members-or}
 use Rattle.cache.proofs.sets.CacheSet.union.Goals as goal

@@ -1,4 +1,4 @@
--- One write after the other. Assumes nothing.
+-- One write after the other.
 use Rattle.std.proofs.Common.{append_assoc, append-nil}
 use Rattle.report.specs.Explanation.{need_line}
 use Rattle.report.proofs.explanation.lines.write_need_line.Goals as goal

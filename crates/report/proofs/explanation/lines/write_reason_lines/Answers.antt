@@ -1,4 +1,4 @@
--- One task more. Assumes nothing.
+-- One task more.
 use Rattle.std.proofs.Common.{ℕ, List, ◌≡◌, ◌<◌, zero-le, arith, ap, sym, ◌∙◌, length, length-append, append_assoc, append-nil}
 use Rattle.search.specs.Positions.{run}
 use Rattle.table.specs.Accesses.{added_by}

@@ -1,4 +1,4 @@
--- The lines of the tasks above j are written. Assumes nothing.
+-- The lines of the tasks above j are written.
 use Rattle.std.proofs.Common.{◌≡◌, ◌++◌, flat_map}
 use Rattle.search.specs.Positions.{between}
 use Rattle.table.specs.Tables.{at}

@@ -1,4 +1,3 @@
--- Assumes nothing.
 use Rattle.std.proofs.Common.{◌≡◌, true, [], ◌∷◌, arith, ap, length, sym, ◌∙◌, refl}
 use Rattle.std.proofs.lemmas.Bool.{false≢true, not-true, not-false}
 use Rattle.std.specs.Str.{bytes_eq}

@@ -1,4 +1,3 @@
--- Assumes nothing.
 use Rattle.table.proofs.Found.{nothing-left}
 use Rattle.table.proofs.text.Fields.is_done.Goals as goal
 

@@ -1,4 +1,3 @@
--- Assumes nothing.
 use Rattle.std.proofs.Common.{sym, ◌∙◌, ap, [], arith, length}
 use Rattle.std.specs.Option.{option_map_or}
 use Rattle.table.specs.Cut.{fields}

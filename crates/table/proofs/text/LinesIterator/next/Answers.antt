@@ -1,4 +1,3 @@
--- Assumes nothing.
 use Rattle.std.proofs.Common.{sym, ◌∙◌, ap, arith, length}
 use Rattle.table.proofs.Lines.{next-line, no-line}
 use Rattle.table.proofs.text.LinesIterator.next.Goals as goal

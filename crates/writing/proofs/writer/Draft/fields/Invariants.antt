@@ -1,4 +1,4 @@
--- The items so far are written. Assumes nothing.
+-- The items so far are written.
 use Rattle.std.proofs.Common.{◌≡◌, ◌++◌, take, flat_map}
 use Rattle.writing.specs.Text.{after_tab}
 use Rattle.writing.proofs.writer.Draft.fields.Given as goal

@@ -1,4 +1,3 @@
--- Assumes nothing.
 use Rattle.std.proofs.Common.{sym}
 use Rattle.table.proofs.Names.{name-short, read-named, room-for-name}
 use Rattle.table.proofs.tasks.name.Name.of.Goals as goal

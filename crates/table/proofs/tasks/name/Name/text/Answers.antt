@@ -1,4 +1,3 @@
--- Assumes nothing.
 use Rattle.std.proofs.Common.{sym, ◌∙◌}
 use Rattle.table.proofs.Found.{before-found, before-missing}
 use Rattle.table.proofs.tasks.name.Name.text.Goals as goal
