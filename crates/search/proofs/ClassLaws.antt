@@ -76,6 +76,30 @@ shares-over some t n = sum-le 0 _ _ n (λ j l. part (some j) (share_of (t j)))
     part true x = omega arith
     part false x = omega arith
 
+-- with numbers that are no more it is no more
+pub over-le : (some : ℕ → Bool) (x y : ℕ → ℕ) (n : ℕ) → ((j : ℕ) → j < n → x j ≤ y j) → sum_over some x n ≤ sum_over some y n
+unfolding sum_over
+over-le some x y n h = sum-le 0 _ _ n (λ j l. one (some j) (h j l))
+  where
+    one : (b : Bool) {a c : ℕ} → a ≤ c → cond b a 0 ≤ cond b c 0
+    one true h = h
+    one false h = omega arith
+
+-- the demand is that of two parts of the terms
+pub demand-parts : (a b : ℕ → Bool) (own : ℕ) (t : ℕ → Term) (s n : ℕ) → ((j x : ℕ) → cond (a j) x 0 + cond (b j) x 0 ≡ x)
+    → demand_of own t n s ≡ own + works_over a t n s + works_over b t n s
+demand-parts a b own t s zero h =
+    omega (arith, demand-none own t s, over_none a (λ j. work_of s (t j)), over_none b (λ j. work_of s (t j)))
+demand-parts a b own t s (suc n) h =
+    omega (
+      arith,
+      demand-parts a b own t s n h,
+      h n (work_of s (t n)),
+      rw add-one at (demand-next own t s n),
+      rw add-one at (over-next a (λ j. work_of s (t j)) n),
+      rw add-one at (over-next b (λ j. work_of s (t j)) n),
+    )
+
 -- ---- classes
 
 module _ (classes : List ℕ) where
@@ -96,6 +120,16 @@ module _ (classes : List ℕ) where
         | no l ↦ (
             let o = lt_of_not-le l in
             rw (lt-ltb k c o, lt-ltb k (c + 1) (omega arith), ne_eqb k c (λ e. omega arith)) (omega arith))
+      ]
+
+  -- before a class, and from it on, are all
+  pub all-parts : (c j x : ℕ) → cond (before_class classes c j) x 0 + cond (from_class classes c j) x 0 ≡ x
+  all-parts c j x = one (get_or classes j 0)
+    where
+      one : (k : ℕ) → cond (ltb k c) x 0 + cond (leb c k) x 0 ≡ x
+      one k = elim (dec_le c k) [
+        | yes l ↦ rw (le-ltb k c l, le-leb c k l) (omega arith)
+        | no l ↦ (let o = lt_of_not-le l in rw (lt-ltb k c o, lt-leb c k o) (omega arith))
       ]
 
   module _ (t : ℕ → Term) (n s : ℕ) where

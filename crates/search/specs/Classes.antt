@@ -33,3 +33,6 @@ AskMore some t n more s = more + s * shares_over some t n ≤ 17179869184 * work
 -- the terms that are taken by their shares, and those that are counted
 abbrev pub taken : List ℕ → ℕ → Bool
 taken classes = before_class classes 9
+
+abbrev pub counted : List ℕ → ℕ → Bool
+counted classes = from_class classes 9
