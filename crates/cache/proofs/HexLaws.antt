@@ -111,9 +111,6 @@ module _ {f : List ℕ} {n i : ℕ} (r : Reading f n i) where
       small = digits_more i 1 r.small (digit_lt (get_or f i 0) d e);
     }
 
-pub at-most-sixteen : (f : List ℕ) (i j : ℕ) → i ≡ j - 16 → length (take (j - i) (drop i f)) ≤ 16
-at-most-sixteen f i j from = simp length-take (omega arith)
-
 -- the digits from i to j make a word: they are sixteen, or the first ones and fewer
 module _ {f : List ℕ} {n i j : ℕ} (r : Reading f n i) (from : i ≡ j - 16) (to : j ≤ length f) where
   long : length (take (j - i) (drop i f)) ≡ j - i

@@ -12,7 +12,7 @@ use crate::hex_digits;
 use crate::units::Reloads;
 
 // A set of cache sets: cache set s is bit s % 64 of word s / 64.
-#[derive(Clone, Copy, Default)]
+#[derive(Clone, Copy)]
 pub struct CacheSet {
     w0: u64,
     w1: u64,
@@ -78,9 +78,9 @@ impl CacheSet {
         if both.equals(self) { own } else { both.size() }
     }
 
-    // The set at position `k` of a list of words, four for each position.
+    // The set whose words stand at position `k` of a list, four for each position.
     #[tactic(auto, unfolding(crate::specs::Stored::held_at))]
-    pub fn at(words: &[u64], k: usize) -> CacheSet
+    pub fn from_words(words: &[u64], k: usize) -> CacheSet
         requires { 4 * k + 4 ≤ length words.now }
         ensures { result ≡ held_at words.now k }
     {
@@ -93,9 +93,9 @@ impl CacheSet {
         }
     }
 
-    // Puts the set at position `k` of a list of words.
+    // Puts its words at position `k` of a list.
     #[tactic(auto, unfolding(crate::specs::Stored::stored_at))]
-    pub fn store(self, words: &mut [u64], k: usize)
+    pub fn put_words(self, words: &mut [u64], k: usize)
         requires { 4 * k + 4 ≤ length words.old }
         ensures { words.new ≡ stored_at words.old k self }
     {

@@ -31,7 +31,7 @@ impl Count {
 
     // One activation: it holds up to the last time at which no second one has come.
     pub fn once(term: Term) -> Count
-        requires { InRange term }
+        requires { term.jitter.0 ≤ term.period.0 }
         ensures { result ≡ once term }
     {
         Count {
@@ -110,7 +110,7 @@ fn advance(own: u64, terms: &[Term], r: u64, counts: &mut [Count]) -> u64
 
 // One activation of each term.
 pub fn firsts(terms: &[Term]) -> [Count; 32]
-    requires { (length terms.now ≤ 32) × ((j : ℕ) → j < length terms.now → InRange (term_in terms.now j)) }
+    requires { (length terms.now ≤ 32) × ((j : ℕ) → j < length terms.now → (term_in terms.now j).jitter.0 ≤ (term_in terms.now j).period.0) }
     ensures { result ≡ front (count 0 0) (λ j. once (term_in terms.now j)) (length terms.now) }
 {
     let mut counts = [Count::NONE; 32];

@@ -14,18 +14,6 @@ use Rattle.table.specs.Tasks.{pack_name, name_text}
 abbrev zeros : List ℕ
 zeros = replicate 12 0
 
-module _ (f : List ℕ) (i : ℕ) where
-  pub pack-step : i < length f → i < 12 → set (take i f ++ drop i zeros) i (get_or f i 0) ≡ take (i + 1) f ++ drop (i + 1) zeros
-  pack-step h k =
-      let l : length (take i f) ≡ i = length-take-le i f (omega arith) in
-      rw (add-one, take-suc f i 0 h, drop-cons zeros i 0 k, append_snoc) (set_at (take i f) (get_or zeros i 0) (drop (suc i) zeros) (get_or f i 0) i l)
-
-  pub pack-short : length f ≤ i → i ≤ length f → i ≤ 12 → take i f ++ drop i zeros ≡ (pack_name f).bytes
-  pack-short h k m = rw (le_antisymm k h, take_all (length f) f (omega arith), take_all 12 f (omega arith))
-
-  pub pack-full : 12 ≤ i → i ≤ 12 → i ≤ length f → take i f ++ drop i zeros ≡ (pack_name f).bytes
-  pack-full h k l = rw (le_antisymm k h, drop_of_length-le zeros {i = length f} (omega arith))
-
 only-zeros : (n k : ℕ) → up_to 0 (drop n (replicate k 0)) ≡ []
 unfolding up_to
 only-zeros zero zero = refl

@@ -4,15 +4,6 @@ use Rattle.std.proofs.Math.Nat.{sub-zero}
 use Rattle.std.proofs.Math.Seq.{take-length}
 use Rattle.table.specs.Cut.{up_to, after}
 
-pub up_to_fits : (c : ℕ) (s : List ℕ) → length (up_to c s) ≤ length s
-unfolding up_to
-up_to_fits c [] = zero-le
-up_to_fits c (b ∷ s) = go (eqb b c) (up_to_fits c s)
-  where
-    go : (t : Bool) → length (up_to c s) ≤ length s → length (cond t [] (b ∷ up_to c s)) ≤ suc (length s)
-    go true h = zero-le
-    go false h = suc-le-suc h
-
 pub up-to-part : (c : ℕ) (s : List ℕ) → take (length (up_to c s)) s ≡ up_to c s
 unfolding up_to
 up-to-part c [] = refl
@@ -30,9 +21,6 @@ after-part c (b ∷ s) = go (eqb b c) (after-part c s)
     go : (t : Bool) → drop (suc (length (up_to c s))) s ≡ after c s → drop (length (cond t [] (b ∷ up_to c s))) s ≡ cond t s (after c s)
     go true h = refl
     go false h = h
-
-pub part-before : (c : ℕ) (s : List ℕ) (e : ℕ) → e ≡ length (up_to c s) → take (e - 0) s ≡ up_to c s
-part-before c s e h = simp (sub-zero, h) (up-to-part c s)
 
 pub part-beyond : (c : ℕ) (s : List ℕ) (e : ℕ) → e ≡ length (up_to c s) → take (length s - (e + 1)) (drop (e + 1) s) ≡ after c s
 part-beyond c s e h = rw (← length-drop (e + 1) s, take-length, h, add-one) (after-part c s)

@@ -10,7 +10,7 @@ use cache::sets::CacheSet;
 use cache::units::Ticks;
 
 // An access: the positions of the task that makes it and of its ceiling, how long it lasts, and its UCB.
-#[derive(Clone, Copy, Default)]
+#[derive(Clone, Copy)]
 pub struct Access {
     pub task: usize,
     pub ceiling: usize,

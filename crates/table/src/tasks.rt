@@ -10,7 +10,7 @@ pub use head::Head;
 pub use name::{Name, is_known, position_of};
 
 // A task: its name, C, T, D, J, B, UCB and ECB.
-#[derive(Clone, Copy, Default)]
+#[derive(Clone, Copy)]
 pub struct Task {
     pub name: Name,
     pub work: Ticks,

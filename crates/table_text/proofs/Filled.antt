@@ -77,7 +77,3 @@ module _ (h : Head) (ts : List Task) (accesses : List Access) where
   access-more a l =
       ap₂ (λ (n : ℕ) (places : List Access). record { sets = h.sets; brt = h.brt; count = length ts; tasks = filled empty_task ts; access_count = n; accesses = places })
       (sym (length-append accesses (a ∷ []))) (filled-more empty_access accesses a l)
-
--- the table of line 1
-pub head-table : (h : Head) → new_table h ≡ table_of h [] []
-head-table h = refl

@@ -28,7 +28,7 @@ fn words_of(marks: CacheSet) -> [u64; 4]
     ensures { result ≡ word_list marks }
 {
     let mut words = [0u64; 4];
-    marks.store(&mut words, 0);
+    marks.put_words(&mut words, 0);
     words
 }
 

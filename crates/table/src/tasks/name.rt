@@ -9,7 +9,7 @@ use crate::fields;
 use crate::tasks::Task;
 
 // A name of 1 to 12 bytes, filled up with zeros.
-#[derive(Clone, Copy, PartialEq, Eq, Default)]
+#[derive(Clone, Copy, PartialEq, Eq)]
 pub struct Name {
     pub bytes: [u8; 12],
 }

@@ -1,0 +1,78 @@
+-- The number of a text's refusal is at most 17: the reasons beyond are those of calls.
+use Rattle.std.proofs.Common.{ℕ, ◌+◌, ◌≤◌, Bool, true, false, ◌&&◌, cond, List, [], ◌∷◌, length, arith, Result, Ok, Err}
+use Rattle.std.specs.Prelude.{nat_lt, ◌==◌}
+use Rattle.table.specs.Cut.{lines}
+use Rattle.table.specs.declared.refusals.Reason.TheVariants.{Shape, NoTask, Blocking}
+use Rattle.table.specs.declared.refusals.Refusal.{Refusal}
+use Rattle.table.specs.Numbers.{reason_number}
+use Rattle.table.specs.Rows.{Conditions, unless_fault}
+use Rattle.table.specs.declared.tasks.Task.{Task}
+use Rattle.table.specs.HeadLine.{head_rows, head_said}
+use Rattle.table.specs.TaskLine.{task_rows}
+use Rattle.table.specs.AccessLine.{access_rows}
+use Rattle.table.specs.declared.Table.{Table}
+use Rattle.table.specs.Tables.{tasks_of, new_table}
+use Rattle.table.specs.Reading.{told, then_read, text_rows, is_task_line, is_access_line, task_line_rows, access_line_rows, line_rows, with_line, first_blocked, ended, read_from, read_lines, read_text}
+
+-- a refusal, if it is one, has such a number
+abbrev pub NumberedLow : {X : Type 0} → Result X Refusal → Type 0
+NumberedLow (Ok x) = Unit {0}
+NumberedLow (Err r) = reason_number r.reason ≤ 17
+
+-- so have the reasons of all conditions
+abbrev LowRows : Conditions → Type 0
+LowRows [] = Unit {0}
+LowRows (r ∷ rows) = (reason_number r.1 ≤ 17) × LowRows rows
+
+-- then what is told of them has
+rows-low : {X Y : Type 0} (line : ℕ) (rows : Conditions) (x : X) (next : X → Result Y Refusal) → LowRows rows → NumberedLow (next x)
+    → NumberedLow (then_read (told line (unless_fault rows x)) next)
+unfolding unless_fault
+rows-low line [] x next low p = p
+rows-low line (r ∷ rows) x next low p = go r.0 (rows-low line rows x next low.1 p)
+  where
+    go : (t : Bool) → NumberedLow (then_read (told line (unless_fault rows x)) next) → NumberedLow (then_read (told line (cond t (Err r.1) (unless_fault rows x))) next)
+    go true rest = low.0
+    go false rest = rest
+
+task-low : (sets : ℕ) (above : List Task) (l : List ℕ) → LowRows (task_rows sets above l)
+unfolding task_rows
+task-low sets above l = (omega arith, (omega arith, (omega arith, (omega arith, (omega arith, (omega arith, (omega arith, tt)))))))
+
+access-low : (sets : ℕ) (tasks : List Task) (l : List ℕ) → LowRows (access_rows sets tasks l)
+unfolding access_rows
+access-low sets tasks l = (omega arith, (omega arith, (omega arith, (omega arith, (omega arith, (omega arith, tt))))))
+
+line-low : (table : Table) (l : List ℕ) → LowRows (line_rows table l)
+line-low table l = go (is_task_line l) (is_access_line l)
+  where
+    go : (s t : Bool) → LowRows (cond s (task_line_rows table l) (cond t (access_line_rows table l) ((true, Shape) ∷ [])))
+    go true t = (omega arith, (omega arith, task-low table.sets (tasks_of table) l))
+    go false true = (omega arith, access-low table.sets (tasks_of table) l)
+    go false false = (omega arith, tt)
+
+ended-low : (table : Table) → NumberedLow (then_read (ended table) (λ _. Ok table))
+unfolding ended unless_fault
+ended-low table = go (table.count == 0) (nat_lt 0 table.access_count && nat_lt (first_blocked (tasks_of table)) (length (tasks_of table)))
+  where
+    go : (s t : Bool)
+        → NumberedLow (then_read (then_read (told 1 (cond s (Err NoTask) (Ok (tt {0})))) (λ _. told (first_blocked (tasks_of table) + 2) (cond t (Err Blocking) (Ok (tt {0}))))) (λ _. Ok table))
+    go true t = omega arith
+    go false true = omega arith
+    go false false = tt
+
+from-low : (ls : List (List ℕ)) (line : ℕ) (table : Table) → NumberedLow (read_from line table ls)
+unfolding read_from
+from-low [] line table = ended-low table
+from-low (l ∷ ls) line table =
+    rows-low line (line_rows table l) (with_line table l) (λ t. read_from (line + 1) t ls) (line-low table l) (from-low ls (line + 1) (with_line table l))
+
+lines-low : (ls : List (List ℕ)) → NumberedLow (read_lines ls)
+unfolding read_lines
+lines-low [] = omega arith
+lines-low (l ∷ ls) =
+    rows-low 1 (head_rows l) (head_said l) (λ head. read_from 2 (new_table head) ls) (omega arith, (omega arith, (omega arith, tt))) (from-low ls 2 (new_table (head_said l)))
+
+pub text-low : (text : List ℕ) → NumberedLow (read_text text)
+unfolding read_text
+text-low text = rows-low 0 (text_rows text) text (λ t. read_lines (lines t)) (omega arith, (omega arith, tt)) (lines-low (lines text))
