@@ -50,9 +50,6 @@ module _ (U E : ℕ → Set) (i j : ℕ) where
   pub with-most : (X : Set) (n : ℕ) (m : Single) → reloads_with U E X n m i j ≤ 2048
   with-most X n m = omega (arith, with-few X n m)
 
-  pub reloads-few : (m : Single) → reloads_of U E m i j ≤ 256
-  reloads-few m = rw (← reloads-none U E 0 i j m) (with-few ∅ 0 m)
-
 -- at the ceiling of an access and below it nothing is added
 pub charge-past : (table : Table) (a : Access) (m : Single) (i j : ℕ) → a.ceiling ≤ j → charge_under table a m i j ≡ charge_at table m i j
 charge-past table a m i j past =

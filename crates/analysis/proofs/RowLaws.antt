@@ -198,19 +198,6 @@ module _ (table : Table) (i : ℕ) (accepted : AcceptedTable table) where
   within : (n : ℕ) → n < table.access_count → n < length table.accesses
   within n few = omega (arith, accepted.listed, few)
 
-  pub longest-none : LongestOf table i 0 0 NoPlace
-  longest-none = (refl, refl)
-
-  pub longest-kept : (n most : ℕ) (found : Option ℕ) → n < table.access_count → (may_block i (get_or table.accesses n empty_access) ≡ false) ⊎ (1 ≤ most)
-      → LongestOf table i n most found → LongestOf table i (n + 1) most found
-  longest-kept n most (Some k) few h p = (omega (arith, p.0), p.1)
-  longest-kept n most NoPlace few (inl e) p = (p.0, blocking-same (by_one table i None) i table.accesses n (within n few) e ∙ p.1)
-  longest-kept n most NoPlace few (inr h) p = absurd (omega (arith, p.0))
-
-  pub longest-all : (most : ℕ) (found : Option ℕ) → LongestOf table i table.access_count most found → OneBlocks table i found
-  longest-all most (Some k) p = p
-  longest-all most NoPlace p = p.1
-
   module _ (here : i < table.count) where
     pub passed-first : (first : ℕ) {s : Answers} → WithOne table (get_or table.accesses first empty_access) i first_answers s → Passed table i first 0 s
     passed-first first w = record {

@@ -40,7 +40,7 @@ firsts-counts-requires c =
     let a = c.args in
     let p = c.requires in
     let h = tried-handed a.table.now a.access a.method a.i p.1 p.3 c.requires.2 p.0 (omega arith) in
-    rw c.scaled_terms-terms.ensures (h.few, h.ranged)
+    rw c.scaled_terms-terms.ensures (h.few, λ j l. (h.ranged j l).jitter)
 
 pub responds-requires : goal.responds-requires
 responds-requires c =

@@ -15,7 +15,7 @@ firsts-requires c =
     let P = plain_access (at a.table.now a.i) in
     let weighed = weighed-plain a.table.now P a.i a.terms.now refl c.requires.weighed in
     let h = row-handed a.table.now P a.i t.0 t.1 (plain-blocks a.table.now a.i t.0 t.1) a.terms.now weighed None in
-    (h.few, h.ranged)
+    (h.few, λ j l. (h.ranged j l).jitter)
 
 pub returns-then-task-above : goal.returns-then-task-above
 returns-then-task-above c =
@@ -30,7 +30,7 @@ returns-then-task-above c =
 pub once-requires : goal.once-requires
 once-requires c =
     let a = c.args in
-    let t = c.requires.table in none-ranged a.table.now a.i t.0 t.1 a.terms.now c.requires.weighed (a.i - 1) (omega arith)
+    let t = c.requires.table in (none-ranged a.table.now a.i t.0 t.1 a.terms.now c.requires.weighed (a.i - 1) (omega arith)).jitter
 
 pub returns : goal.returns
 returns c =
