@@ -42,8 +42,5 @@ unfolding run
 methods-are = refl
 
 module _ {A : Type 0} (f : ℕ → A) where
-  pub methods-at : (m : ℕ) (d : A) → m < 6 → get_or (map f method_numbers) m d ≡ f m
-  methods-at m d h = ap (λ (ms : List ℕ). get_or (map f ms) m d) (sym methods-are) ∙ map_at f 6 m d h
-
   pub methods-same : (g : ℕ → A) → ((m : ℕ) → m < 6 → f m ≡ g m) → map f method_numbers ≡ map g method_numbers
   methods-same g h = ap (map f) (sym methods-are) ∙ map_same f g 6 h ∙ ap (map g) methods-are

@@ -17,6 +17,10 @@ has_response Unschedulable = false
 abbrev pub verdict : ℕ → (ℕ → Response) → Bool
 verdict count answers = fold_by ◌&&◌ true (λ i. has_response (answers i)) (between 0 count)
 
+-- whether it has one under every method
+abbrev pub every_verdict : ℕ → (ℕ → ℕ → Response) → Bool
+every_verdict count answers = fold_by ◌&&◌ true (λ m. verdict count (answers m)) method_numbers
+
 -- the last line: `V`, and the verdict of each method
 unfoldable pub verdict_line : ℕ → (ℕ → ℕ → Response) → List ℕ
 verdict_line count answers = line_of (86 ∷ []) (map (λ m. yes_no (verdict count (answers m))) method_numbers)

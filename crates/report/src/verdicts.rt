@@ -2,7 +2,7 @@
 
 ghost use Rattle.std.specs.Prelude.{◌≡◌, ◌+◌, ◌≤◌, ◌<◌, ◌++◌, length};
 ghost use Rattle.writing.specs.declared.writer.TheConstants.{ROOM};
-ghost use Rattle.report.specs.Verdicts.{has_response, verdict, verdict_line};
+ghost use Rattle.report.specs.Verdicts.{has_response, verdict, every_verdict, verdict_line};
 ghost use Rattle.report.specs.VerdictRows.{answer_under, answers_in};
 
 use search::demand::{Response, Row};
@@ -30,6 +30,19 @@ fn verdict(rows: &[Row], m: usize) -> bool
         }
     }
     true
+}
+
+// Whether every task has a response under every method.
+#[tactic(auto, unfolding(search::specs::Positions::fold_by))]
+pub fn every_verdict(rows: &[Row]) -> bool
+    ensures { result ≡ every_verdict (length rows.now) (answers_in rows.now) }
+{
+    verdict(rows, 0)
+        & verdict(rows, 1)
+        & verdict(rows, 2)
+        & verdict(rows, 3)
+        & verdict(rows, 4)
+        & verdict(rows, 5)
 }
 
 // The last line, from the rows of all tasks.
