@@ -10,12 +10,12 @@ import tempfile
 import time
 
 ROOT = os.path.join(os.path.dirname(os.path.abspath(__file__)), "..")
-PROVED = os.path.join(ROOT, "target", "bin", "crpd_report")
+PROVED = os.path.join(ROOT, "crates", "crpd_report", "out", "crpd_report")
 SCRIPT = os.path.join(ROOT, "bin", "crpd-report")
 COMMAND = os.path.join(ROOT, "target", "command", "crpd")
 ROUNDS = 3
 FOLDERS = 20
-EACH = 'for table; do "$PROGRAM" <"$table" >"${table%.table}.report"; done'
+EACH = 'for table; do "$PROGRAM" <"$table" >"${table%.table}.report" || [ $? -eq 1 ] || exit; done'
 
 
 def ten_tasks(number):

@@ -94,14 +94,16 @@ def run(*args, text=b"", before=(), seconds=SECONDS, **more):
 
 def reporter():
     """What prints a report: the program itself where this machine can start it, which saves its script's time."""
-    program = os.path.join(ROOT, "target", "bin", "crpd_report")
+    program = os.path.join(ROOT, "crates", "crpd_report", "out", "crpd_report")
     direct = platform.machine() == "x86_64" and os.access(program, os.X_OK)
     return [program] if direct else [os.path.join(ROOT, "bin", "crpd-report")]
 
 
 def printed(text, command=None, seconds=SECONDS):
-    """What crpd-report prints of a text."""
-    return subprocess.run(command or reporter(), input=text, stdout=subprocess.PIPE, check=True, timeout=seconds).stdout
+    """What crpd-report prints of a text, with the status that goes with it."""
+    done = subprocess.run(command or reporter(), input=text, stdout=subprocess.PIPE, timeout=seconds)
+    same("the status of crpd-report", done.returncode, status_of(done.stdout))
+    return done.stdout
 
 
 def all_printed(texts):

@@ -26,6 +26,8 @@ REPORT = (
     b"R\tc\t60\t5\t13\t9\t11\t9\t9\n"
     b"V\tyes\tyes\tyes\tyes\tyes\tyes\n"
 )
+LATE = b"K\t4\t0\nT\ta\t5\t10\t10\t0\t0\t0\t0\nT\tb\t6\t12\t12\t0\t0\t0\t0\n"
+LATE_REPORT = b"R\ta\t10\t5\t5\t5\t5\t5\t5\nR\tb\t12\t-\t-\t-\t-\t-\t-\nV\tno\tno\tno\tno\tno\tno\n"
 TOO_LONG = b"E\t1\t0\n"
 NO_END = b"E\t2\t0\n"
 UNREAD = b"crpd-report: cannot read standard input\n"
@@ -136,26 +138,28 @@ def ignored():
     signal.signal(signal.SIGPIPE, signal.SIG_IGN)
 
 
-FINE, ENDED = (0,), (-signal.SIGPIPE, 128 + signal.SIGPIPE)
+FINE, SOME_UNSCHEDULABLE, REFUSED, FAILED = (0,), (1,), (2,), (4,)
+ENDED = (-signal.SIGPIPE, 128 + signal.SIGPIPE)
 CASES = [
     ("a table from a file", from_file, REPORT, b"", FINE),
     ("a table from a pipe", lambda: run(whole(TABLE)), REPORT, b"", FINE),
     ("a table byte by byte", lambda: run(in_parts([1], 0.002)), REPORT, b"", FINE),
     ("a table in uneven parts, slowly", lambda: run(in_parts([7, 1, 13, 2, 29], 0.05)), REPORT, b"", FINE),
     ("a process that is stopped and continued", lambda: run(in_parts([17], 0.02, stopped_and_continued)), REPORT, b"", FINE),
-    ("no input", lambda: run(whole(b"")), NO_END, b"", FINE),
-    ("an empty device as input", lambda: reading("/dev/null"), NO_END, b"", FINE),
-    ("a table whose last line is not ended", lambda: run(whole(TABLE[:-1])), NO_END, b"", FINE),
-    ("16,384 bytes", lambda: run(whole(b"x" * 16384)), NO_END, b"", FINE),
-    ("16,385 bytes", lambda: run(whole(b"x" * 16384 + b"\n")), TOO_LONG, b"", FINE),
-    ("16,385 bytes, and the pipe stays open", lambda: run(whole(b"x" * 16385, stays_open=True)), TOO_LONG, b"", FINE),
-    ("an endless pipe", lambda: run(without_end), TOO_LONG, b"", FINE),
-    ("an endless device as input", lambda: reading("/dev/zero"), TOO_LONG, b"", FINE),
-    ("a directory as input", lambda: reading("/"), b"", UNREAD, FINE),
-    ("no standard input", lambda: run(preexec_fn=lambda: os.close(0)), b"", UNREAD, FINE),
-    ("no standard output", lambda: run(whole(TABLE), stdout=None, preexec_fn=lambda: os.close(1)), b"", UNWRITTEN, FINE),
-    ("a full device as output", lambda: writing(os.open("/dev/full", os.O_WRONLY)), b"", UNWRITTEN, FINE),
-    ("a pipe that nobody reads, SIGPIPE ignored", lambda: unread_pipe(restore_signals=False, preexec_fn=ignored), b"", UNWRITTEN, FINE),
+    ("a table in which a task has no response", lambda: run(whole(LATE)), LATE_REPORT, b"", SOME_UNSCHEDULABLE),
+    ("no input", lambda: run(whole(b"")), NO_END, b"", REFUSED),
+    ("an empty device as input", lambda: reading("/dev/null"), NO_END, b"", REFUSED),
+    ("a table whose last line is not ended", lambda: run(whole(TABLE[:-1])), NO_END, b"", REFUSED),
+    ("16,384 bytes", lambda: run(whole(b"x" * 16384)), NO_END, b"", REFUSED),
+    ("16,385 bytes", lambda: run(whole(b"x" * 16384 + b"\n")), TOO_LONG, b"", REFUSED),
+    ("16,385 bytes, and the pipe stays open", lambda: run(whole(b"x" * 16385, stays_open=True)), TOO_LONG, b"", REFUSED),
+    ("an endless pipe", lambda: run(without_end), TOO_LONG, b"", REFUSED),
+    ("an endless device as input", lambda: reading("/dev/zero"), TOO_LONG, b"", REFUSED),
+    ("a directory as input", lambda: reading("/"), b"", UNREAD, FAILED),
+    ("no standard input", lambda: run(preexec_fn=lambda: os.close(0)), b"", UNREAD, FAILED),
+    ("no standard output", lambda: run(whole(TABLE), stdout=None, preexec_fn=lambda: os.close(1)), b"", UNWRITTEN, FAILED),
+    ("a full device as output", lambda: writing(os.open("/dev/full", os.O_WRONLY)), b"", UNWRITTEN, FAILED),
+    ("a pipe that nobody reads, SIGPIPE ignored", lambda: unread_pipe(restore_signals=False, preexec_fn=ignored), b"", UNWRITTEN, FAILED),
     ("a pipe that nobody reads", unread_pipe, b"", b"", ENDED),
 ]
 

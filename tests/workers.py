@@ -12,6 +12,8 @@ import subprocess
 import sys
 import threading
 
+import common
+
 ROOT = os.path.join(os.path.dirname(os.path.abspath(__file__)), "..")
 COMMAND = sys.argv[1:] or [os.path.join(ROOT, "bin", "crpd-report")]
 LIBRARY = os.path.join(ROOT, "target", "staticlib", "libcrpd.a")
@@ -19,8 +21,11 @@ OUTSIDE = {"memcpy", "memmove", "memset"}  # what the library may call, which ke
 
 
 def report(table, seconds=60):
-    """What the program prints of a table."""
-    return subprocess.run(COMMAND, input=table, stdout=subprocess.PIPE, check=True, timeout=seconds).stdout
+    """What the program prints of a table, with the status that goes with it."""
+    done = subprocess.run(COMMAND, input=table, stdout=subprocess.PIPE, timeout=seconds)
+    if done.returncode != common.status_of(done.stdout):
+        raise ValueError("status %d where %.300r was printed" % (done.returncode, done.stdout))
+    return done.stdout
 
 
 def lines(table):

@@ -1,11 +1,12 @@
 // The program crpd-report: standard input is the table text, standard output gets its report or the line of a refusal.
 #![tactic(auto)]
 
-ghost use Rattle.std.specs.Prelude.{◌≡◌, ◌≢◌, ◌≤◌, length, take, IfOk, OnOk, OnErr, IfSome};
+ghost use Rattle.std.specs.Prelude.{◌≡◌, ◌≤◌, length, take, IfOk, OnOk, OnErr, IfSome};
 ghost use Rattle.std.specs.Io.{ReadsAtMost};
-ghost use Rattle.std.specs.Io.KnownBytes.{Appends, Consumes, Keeps, ReadConsumes};
-ghost use Rattle.crpd.specs.Operations.{printed};
+ghost use Rattle.std.specs.Io.KnownBytes.{Appends, Consumes, ReadConsumes, WriteAppends};
+ghost use Rattle.crpd_report.specs.Runs.{ConsumesLess, AppendsPart, Printing, Reading};
 
+use crpd::Outcome;
 use std::io::{self, ErrorKind, Print, Read, Write};
 use std::process::ExitCode;
 
@@ -33,6 +34,7 @@ fn read_input<R: Read>(input: &mut R, buf: &mut [u8]) -> io::Result<usize>
     ensures within { IfOk result (λ len. len ≤ length buf.new) }
     ensures bytes { IfOk result (λ len. IfSome (R.remaining input.old) (λ bytes. take len buf.new ≡ take (length buf.new) bytes)) }
     ensures consumed { IfOk result (λ len. Consumes (R.remaining input.old) (R.remaining input.new) (take len buf.new)) }
+    ensures failed { OnErr result (ConsumesLess (length buf.old) (R.remaining input.old) (R.remaining input.new)) }
 {
     let mut len = 0;
     while len < buf.len() {
@@ -45,37 +47,77 @@ fn read_input<R: Read>(input: &mut R, buf: &mut [u8]) -> io::Result<usize>
     Ok(len)
 }
 
-// Why not all was printed: a read failed, and nothing is written; or a write failed.
+// One write, which takes some of the bytes. One that a signal interrupts is tried again, as is a read; one that takes none has failed.
+fn write_some<W: Write>(output: &mut W, bytes: &[u8]) -> io::Result<usize>
+    ensures some { IfOk result (λ len. (1 ≤ len) × (len ≤ length bytes.now)) }
+    ensures bytes { WriteAppends (W.contents output.old) (W.contents output.new) result bytes.now }
+{
+    for _ in 0..u64::MAX {
+        match output.write(bytes) {
+            Ok(0) => return Err(ErrorKind::WriteZero.into()),
+            Ok(len) => return Ok(len),
+            Err(failure) => {
+                if failure.kind() != ErrorKind::Interrupted {
+                    return Err(failure);
+                }
+            }
+        }
+    }
+    Err(ErrorKind::Interrupted.into())
+}
+
+// Writes all the bytes. Where a write fails some of them may have been written, and not all.
+fn write_output<W: Write>(output: &mut W, bytes: &[u8]) -> io::Result<()>
+    ensures whole { OnOk result (Appends (W.contents output.old) (W.contents output.new) bytes.now) }
+    ensures part { OnErr result (AppendsPart (W.contents output.old) (W.contents output.new) bytes.now) }
+{
+    let mut len = 0;
+    while len < bytes.len() {
+        len += write_some(output, &bytes[len..])?;
+    }
+    Ok(())
+}
+
+// Why not all was printed: a read failed, and nothing is written; or a write failed, and a part is.
 pub enum Failure {
     Read,
     Write(io::Error),
 }
 
-// The whole run: what is printed of all that the reader has is written, and nothing else. One byte more than a table may have tells that
-// it is too long; what follows is not read.
-pub fn run<R: Read, W: Write>(reader: &mut R, writer: &mut W) -> Result<(), Failure>
-    ensures written { OnOk result (IfSome (R.remaining reader.old) (λ bytes. Appends (W.contents writer.old) (W.contents writer.new) (printed bytes))) }
-    ensures consumed { result ≢ Err Failure.Read → IfSome (R.remaining reader.old) (λ bytes. Consumes (R.remaining reader.old) (R.remaining reader.new) (take 16385 bytes)) }
-    ensures unread { result ≡ Err Failure.Read → Keeps (W.contents writer.old) (W.contents writer.new) }
+// The whole run: what is printed of all that the reader has is written, and nothing else; and how it went with the text. One byte more than a table may have tells
+// that it is too long; what follows is not read.
+pub fn run<R: Read, W: Write>(reader: &mut R, writer: &mut W) -> Result<Outcome, Failure>
+    ensures written { IfSome (R.remaining reader.old) (λ text. Printing text (W.contents writer.old) (W.contents writer.new) result) }
+    ensures read { IfSome (R.remaining reader.old) (λ text. Reading text (R.remaining reader.old) (R.remaining reader.new) result) }
 {
     let mut text = [0u8; 16385];
-    let Ok(len) = read_input(reader, &mut text) else {
-        return Err(Failure::Read);
+    let len = match read_input(reader, &mut text) {
+        Ok(len) => len,
+        Err(_) => return Err(Failure::Read),
     };
     let mut out = [0u8; 2746];
-    let end = crpd::print(&text[..len], &mut out);
-    match writer.write_all(&out[..end]) {
-        Ok(()) => Ok(()),
+    let printed = crpd::print(&text[..len], &mut out);
+    match write_output(writer, &out[..printed.len]) {
+        Ok(()) => Ok(printed.outcome),
         Err(error) => Err(Failure::Write(error)),
     }
 }
+
+// The exit statuses: 0 where a report is given in which every task has a response under every method, and these.
+const SOME_UNSCHEDULABLE: u8 = 1;
+
+const REFUSED: u8 = 2;
+
+const FAILED: u8 = 4;
 
 // How a program ends that the signal of a closed pipe ends, as a shell tells it.
 const CLOSED_PIPE: u8 = 141;
 
 fn main(rt: HostRuntime) -> ExitCode {
     let told: &[u8] = match run(&mut rt.stdin(), &mut rt.stdout()) {
-        Ok(()) => return ExitCode::SUCCESS,
+        Ok(Outcome::Passed) => return ExitCode::SUCCESS,
+        Ok(Outcome::SomeUnschedulable) => return ExitCode::from(SOME_UNSCHEDULABLE),
+        Ok(Outcome::Refused) => return ExitCode::from(REFUSED),
         // Nobody reads any more, so nothing is said: std has the signal ignored that would have ended the program here.
         Err(Failure::Write(error)) if error.kind() == ErrorKind::BrokenPipe => {
             return ExitCode::from(CLOSED_PIPE);
@@ -84,5 +126,5 @@ fn main(rt: HostRuntime) -> ExitCode {
         Err(Failure::Read) => b"crpd-report: cannot read standard input\n",
     };
     let _ = rt.stderr().write_all(told);
-    ExitCode::SUCCESS
+    ExitCode::from(FAILED)
 }
