@@ -1,7 +1,7 @@
 -- The lines of an explanation add up to the need, and the need is the response where it is within the limit.
 use Rattle.std.proofs.Common.{ℕ, ◌≤◌, ◌<◌, List, ◌≡◌, sym, ap, ◌∙◌, arith}
 use Rattle.cache.specs.declared.units.Ticks.{Ticks}
-use Rattle.search.specs.declared.demand.Response.TheVariants.{Within}
+use Rattle.search.specs.declared.demand.Response.TheVariants.{Within, Unschedulable}
 use Rattle.search.specs.declared.demand.Term.{Term}
 use Rattle.search.specs.Demand.{work_of}
 use Rattle.search.specs.Terms.{InRange}
@@ -55,13 +55,15 @@ module _ (table : Table) (accepted : AcceptedTable table) (i : ℕ) (held : i < 
   pub explained-time : (need : Need) (R : Ticks) → need ≡ need_of table m i → need.time ≡ Within R → R.0 ≤ 250000000
   explained-time need R e f = let q = rw (← e, f) at (needed table accepted i held m).ranged.time in q
 
-  pub adds-up : (r : Sum) → r.need ≡ need_of table m i → ((R : Ticks) → r.need.time ≡ Within R → r.total.0 ≡ sum_of table r.need i R.0) → AddsUp table m i r
-  adds-up r e t = record {
+  pub adds-up : (r : Sum) → r.need ≡ need_of table m i → ((R : Ticks) → r.need.time ≡ Within R → r.total.0 ≡ sum_of table r.need i R.0)
+      → (r.need.time ≡ Unschedulable → r.total.0 ≡ 0) → AddsUp table m i r
+  adds-up r e t none = record {
     need_is = e;
     total_is = t;
     adds_up = λ R f.
         let sum : r.total.0 ≡ R.0 = t R f ∙ rw e (explanation-adds-up table accepted i held m R (rw e at f)) in
         ap (λ (n : ℕ). record { 0 = n }) sum;
+    beyond = none;
   }
 
   pub needed-as-answered : (r : NeedAndResponse) → r.need ≡ need_of table m i → r.response ≡ response_of table m i → IsNeededAsAnswered table m i r

@@ -13,6 +13,7 @@ use Rattle.table.specs.declared.Table.{Table}
 use Rattle.table.specs.Accepted.{AcceptedTable}
 use Rattle.analysis.specs.declared.Method.{Method}
 use Rattle.analysis.specs.Analysis.{response_of}
+use Rattle.analysis.proofs.SameLaws.{response-same}
 use Rattle.analysis.proofs.Orders.{response-place, harder-no-sooner}
 use Rattle.laws.specs.Permutations.{times_in, EachOnce}
 use Rattle.laws.specs.Equation.{demand_over}
@@ -34,6 +35,7 @@ pub easier-first : (first second : Table) (i k : ℕ) (m : Method) (r : TwoRespo
 easier-first first second i k m r p q held f s = record {
   first_is = f;
   second_is = s;
+  same = λ h e. rw (f, s, ← e) (response-same i first second h m);
   harder = λ h e. responds-by r.first r.second (rw (f, s, ← e) (harder-no-sooner first second h p q m i held));
   harder_by = λ place h e. responds-by r.first r.second (rw (f, s, ← e) (response-place place first second i h p q held m));
 }
@@ -45,11 +47,6 @@ unfolding times_in
 times-at [] i d h = absurd (omega arith)
 times-at (k ∷ ks) zero d h = rw (eq-eqb k k refl) (omega arith)
 times-at (k ∷ ks) (suc i) d h = omega (arith, times-at ks i d (omega arith))
-
-fold-ones : (z : ℕ) (ks : List ℕ) → fold_by ◌+◌ z (λ _. 1) ks ≡ z + length ks
-unfolding fold_by
-fold-ones z [] = omega arith
-fold-ones z (k ∷ ks) = omega (arith, fold-ones (z + 1) ks)
 
 fold-last : (z : ℕ) (F : ℕ → ℕ) (ks : List ℕ) (k : ℕ) → fold_by ◌+◌ z F (ks ++ k ∷ []) ≡ fold_by ◌+◌ z F ks + F k
 unfolding fold_by
@@ -64,19 +61,20 @@ module _ {n : ℕ} {ks : List ℕ} (once : EachOnce 0 n ks) where
     | no l ↦ absurd (omega (arith, times-at ks k 0 h, once.no_other (get_or ks k 0) (λ a b. l b)))
   ]
 
-  -- and there are n of them
-  pub once-long : length ks ≡ n
-  once-long =
-      omega (
-        arith,
-        fold-ones 0 ks,
-        fold-ones 0 (hp n),
-        run_long 0 (n - 0),
-        fold-any-order sum-unordered 0 (λ _. 1) ks (hp n) (once-permutation 0 n zero-le ks once),
-      )
-
 -- one term more
 pub demand-over-next : (own : ℕ) (terms : ℕ → Term) (ks : List ℕ) (r k : ℕ) → k < length ks
     → demand_over own terms (take (k + 1) ks) r ≡ demand_over own terms (take k ks) r + work_of r (terms (get_or ks k 0))
 demand-over-next own terms ks r k h =
     ap (fold_by ◌+◌ own (λ j. work_of r (terms j))) (take_more ks k 0 h) ∙ fold-last own (λ j. work_of r (terms j)) (take k ks) (get_or ks k 0)
+
+-- a sum of the first is no more than that of all
+sum-from : (z : ℕ) (F : ℕ → ℕ) (ks : List ℕ) → z ≤ fold_by ◌+◌ z F ks
+unfolding fold_by
+sum-from z F [] = omega arith
+sum-from z F (k ∷ ks) = omega (arith, sum-from (z + F k) F ks)
+
+pub sum-front : (z : ℕ) (F : ℕ → ℕ) (ks : List ℕ) (n : ℕ) → fold_by ◌+◌ z F (take n ks) ≤ fold_by ◌+◌ z F ks
+unfolding fold_by
+sum-front z F ks zero = sum-from z F ks
+sum-front z F [] (suc n) = omega arith
+sum-front z F (k ∷ ks) (suc n) = sum-front (z + F k) F ks n

@@ -1,5 +1,5 @@
 -- What is told of texts.
-use Rattle.std.proofs.Common.{ℕ, ◌≤◌, Bool, true, false, List, ◌++◌, length, take, drop, ◌≡◌, refl, sym, ◌∙◌, arith, cond, ltb, Result, Ok, Err}
+use Rattle.std.proofs.Common.{ℕ, ◌≤◌, Bool, true, false, List, ◌++◌, length, take, drop, ◌≡◌, refl, sym, ap, ◌∙◌, arith, cond, ltb, Result, Ok, Err}
 use Rattle.std.proofs.lemmas.Bool.{ltb-false, le-ltb}
 use Rattle.std.proofs.Math.Seq.{take_at}
 use Rattle.search.specs.declared.demand.Response.{Response}
@@ -9,6 +9,7 @@ use Rattle.table.specs.declared.refusals.Refusal.{Refusal}
 use Rattle.table.specs.Numbers.{untold}
 use Rattle.table.specs.declared.Table.{Table}
 use Rattle.table.specs.Reading.{then_read, read_text}
+use Rattle.table.proofs.ToldNumbers.{text-low}
 use Rattle.writing.proofs.Deliveries.{fitting}
 use Rattle.table_text.specs.TableText.{table_text}
 use Rattle.table_text.specs.Readable.{Readable}
@@ -19,7 +20,7 @@ use Rattle.growth.specs.Growth.{growth_of}
 use Rattle.crpd.specs.Operations.{numbered, position_in, answer_to, growth_to, TextWritten, TextRewritten, TableWritten}
 use Rattle.crpd.proofs.Easier.{easier-answers}
 use Rattle.laws.specs.declared.texts.TwoAnswers.{TwoAnswers}
-use Rattle.laws.specs.Texts.{EasierTextRespondsFirst, IsTextGrowth, ComesBack}
+use Rattle.laws.specs.Texts.{EasierTextRespondsFirst, IsTextGrowth, ComesBack, IsReadAgain}
 use Rattle.laws.proofs.GrowthLaws.{is-growth}
 
 -- ---- two texts
@@ -62,25 +63,50 @@ fitting-made {text = text} e h w =
     let f = fitting (omega (arith, w.short text e)) (record { answer = rw e at w.answer-is; buffer = rw e at w.buffer-is }) in
     (f.0, f.1.buffer-is)
 
+-- a text that is refused leaves the buffer
+refusal-left : {made : Result (List ℕ) Refusal} {most : ℕ} {before after : List ℕ} {r : Result ℕ Refusal} {refusal : Refusal} → made ≡ Err refusal
+    → TextWritten most made before r after → (r ≡ Err refusal) × (after ≡ before)
+refusal-left e w = (rw e at w.answer-is, rw e at w.buffer-is)
+
 pub comes-back : (text before : List ℕ) (r : Result ℕ Refusal) (after : List ℕ) → 9293 ≤ length before → TextRewritten text before r after → ComesBack text before r after
-comes-back text before r after h w table e = fitting-made (rw e) h w
+comes-back text before r after h w = record { accepted = λ table e. fitting-made (rw e) h w; refused = λ refusal e. let left = refusal-left (rw e) w in (left.0, rw e at (text-low text), left.1) }
 
-module _ (table : Table) (readable : Readable table) (before after : List ℕ) (room : 9293 ≤ length before) where
-  -- it is not refused
-  pub not-refused : (e : Refusal) → TableWritten table before (Err e) after → ⊥
-  not-refused e w =
+no-other : {A : Type 0} {x : A} {e : Refusal} → ◌≡◌ {A = Result A Refusal} (Ok x) (Err e) → ⊥
+no-other e = let z : ◌≡◌ {A = ℕ} 0 1 = cc in omega arith
+
+-- what reading says of the table that is read
+read-back : (result : Result (Unit {0}) Refusal) (read table : Table) → then_read result (λ _. Ok read) ≡ Ok table → (result ≡ Ok tt) × (read ≡ table)
+read-back (Ok tt) read table e = (refl, cc)
+read-back (Err r) read table e = absurd (no-other (sym e))
+
+module _ (table : Table) (before after : List ℕ) (room : 9293 ≤ length before) where
+  -- a table that some text gives is not refused
+  not-refused : (e : Refusal) → Readable table → TableWritten table before (Err e) after → ⊥
+  not-refused e readable w =
       let f = fitting-made (w.meant.given readable) room w.written in
-      let z : ◌≡◌ {A = ℕ} 0 1 = cc in
-      omega arith
+      no-other (sym f.0)
 
-  -- and what is written reads as the table
-  pub reads-again : (n : ℕ) → TableWritten table before (Ok n) after → read_text (take n after) ≡ Ok table
-  reads-again n w =
+  -- what is written of it reads as the table
+  reads-again : (n : ℕ) → Readable table → TableWritten table before (Ok n) after → read_text (take n after) ≡ Ok table
+  reads-again n readable w =
       let f = fitting-made (w.meant.given readable) room w.written in
       let all : n ≡ length (table_text table) = cc in
       rw (all, f.1, take_at (table_text table) (drop (length (table_text table)) before) (length (table_text table)) refl) (written-then-read table readable)
 
--- what reading says of the table that is read
-pub read-back : (result : Result (Unit {0}) Refusal) (read table : Table) → then_read result (λ _. Ok read) ≡ Ok table → (result ≡ Ok tt) × (read ≡ table)
-read-back (Ok tt) read table e = (refl, cc)
-read-back (Err r) read table e = let z : ◌≡◌ {A = ℕ} 0 1 = cc in absurd (omega arith)
+  -- where the table is written, it is then read
+  pub written-again : (n : ℕ) (old read : Table) (result : Result (Unit {0}) Refusal) → TableWritten table before (Ok n) after
+      → then_read result (λ _. Ok read) ≡ read_text (take n after) → IsReadAgain table old result read
+  written-again n old read result w e = record {
+    readable = λ readable. read-back result read table (e ∙ reads-again n readable w);
+    refused = λ none. absurd (no-other (refusal-left (w.meant.refused none) w.written).0);
+  }
+
+  -- where it is refused, it has no text
+  pub refused-again : (e : Refusal) (old : Table) → TableWritten table before (Err e) after → IsReadAgain table old (Err e) old
+  refused-again e old w = record {
+    readable = λ readable. absurd (not-refused e readable w);
+    refused = λ none.
+        let d : ◌≡◌ {A = Result ℕ Refusal} (Err e) (Err (untold reason.NoText)) = (refusal-left (w.meant.refused none) w.written).0 in
+        let told : e ≡ untold reason.NoText = cc in
+        (ap Err told, refl);
+  }

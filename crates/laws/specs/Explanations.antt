@@ -1,7 +1,7 @@
 -- What an explanation says is true of the equation.
 use Rattle.std.specs.Prelude.{ℕ, ◌+◌, ◌*◌, ◌≤◌, ◌≡◌}
 use Rattle.cache.specs.declared.units.Ticks.{Ticks}
-use Rattle.search.specs.declared.demand.Response.TheVariants.{Within}
+use Rattle.search.specs.declared.demand.Response.TheVariants.{Within, Unschedulable}
 use Rattle.search.specs.Positions.{hp, fold_by}
 use Rattle.table.specs.Tasks.{limit_of}
 use Rattle.table.specs.declared.Table.{Table}
@@ -24,11 +24,12 @@ adds_at table need i r j =
 abbrev pub sum_of : Table → Need → ℕ → ℕ → ℕ
 sum_of table need i r = fold_by ◌+◌ ((at table i).work.0 + need.blocker.lasts.0) (adds_at table need i r) (hp i)
 
--- the need; and where it is not beyond, the total is this sum, and the sum is the need
+-- the need; where it is not beyond, the total is this sum, and the sum is the need; where it is, the total is 0
 pub record AddsUp (table : Table) (m : Method) (i : ℕ) (r : Sum) : Type 0 where
   pub need_is : r.need ≡ need_of table m i
   pub total_is : (R : Ticks) → r.need.time ≡ Within R → r.total.0 ≡ sum_of table r.need i R.0
   pub adds_up : (R : Ticks) → r.need.time ≡ Within R → r.total ≡ R
+  pub beyond : r.need.time ≡ Unschedulable → r.total.0 ≡ 0
 
 -- the need and the response; where there is a response, it is the need, and within D - J; and a need within D - J is the response
 pub record IsNeededAsAnswered (table : Table) (m : Method) (i : ℕ) (r : NeedAndResponse) : Type 0 where

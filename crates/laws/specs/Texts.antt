@@ -1,8 +1,10 @@
 -- What is told of table texts.
-use Rattle.std.specs.Prelude.{ℕ, ◌≤◌, ◌≡◌, List, ◌++◌, length, drop, Result, Ok}
+use Rattle.std.specs.Prelude.{ℕ, ◌≤◌, ◌≡◌, List, ◌++◌, length, drop, Result, Ok, Err}
 use Rattle.cache.specs.declared.units.Ticks.{Ticks}
 use Rattle.search.specs.declared.demand.Response.TheVariants.{Within}
+use Rattle.table.specs.declared.refusals.Reason.TheVariants.{NoText}
 use Rattle.table.specs.declared.refusals.Refusal.{Refusal}
+use Rattle.table.specs.Numbers.{reason_number, untold}
 use Rattle.table.specs.declared.Table.{Table}
 use Rattle.table.specs.Reading.{read_text}
 use Rattle.analysis.specs.Harder.{Harder}
@@ -27,11 +29,13 @@ pub record EasierTextRespondsFirst (first second : List ℕ) (m i : ℕ) (r : Tw
 abbrev pub IsTextGrowth : List ℕ → ℕ → Result ℕ Refusal → Type 0
 IsTextGrowth text m r = (table : Table) → ReadsAs text table → m ≤ 5 → (k : ℕ) × (r ≡ Ok k) × IsGrowth table (numbered m) k
 
--- of an accepted text the same bytes stand at the buffer's start, and after them the buffer is as it was
-abbrev pub ComesBack : List ℕ → List ℕ → Result ℕ Refusal → List ℕ → Type 0
-ComesBack text before r after =
-    (table : Table) → ReadsAs text table → (r ≡ Ok (length text)) × (after ≡ text ++ drop (length text) before)
+-- of an accepted text the same bytes stand at the buffer's start, and after them the buffer is as it was; of another its refusal is told,
+-- which is one of the numbers of texts, and the buffer is left
+pub record ComesBack (text before : List ℕ) (r : Result ℕ Refusal) (after : List ℕ) : Type 0 where
+  pub accepted : (table : Table) → ReadsAs text table → (r ≡ Ok (length text)) × (after ≡ text ++ drop (length text) before)
+  pub refused : (refusal : Refusal) → read_text text ≡ Err refusal → (r ≡ Err refusal) × (reason_number refusal.reason ≤ 17) × (after ≡ before)
 
--- a table that some text gives is accepted again, and is the same value
-abbrev pub IsReadAgain : Table → Result Unit Refusal → Table → Type 0
-IsReadAgain table r again = Readable table → (r ≡ Ok tt) × (again ≡ table)
+-- a table that some text gives is accepted again, and is the same value; of another it is told that it has no text, and nothing is read
+pub record IsReadAgain (table before : Table) (r : Result Unit Refusal) (again : Table) : Type 0 where
+  pub readable : Readable table → (r ≡ Ok tt) × (again ≡ table)
+  pub refused : (Readable table → ⊥) → (r ≡ Err (untold NoText)) × (again ≡ before)

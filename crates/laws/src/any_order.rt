@@ -11,17 +11,17 @@ use cache::units::Reloads;
 // A set that was worked out in two ways.
 #[derive(Clone, Copy)]
 pub struct TwoWays {
-    one: CacheSet,
-    other: CacheSet,
+    pub one: CacheSet,
+    pub other: CacheSet,
 }
 
 // Of three sets U, A and B the sizes of U ∩ (A ∪ B), U ∩ A ∩ B, U ∩ A and U ∩ B.
 #[derive(Clone, Copy)]
 pub struct Sizes {
-    either: Reloads,
-    both: Reloads,
-    first: Reloads,
-    second: Reloads,
+    pub either: Reloads,
+    pub both: Reloads,
+    pub first: Reloads,
+    pub second: Reloads,
 }
 
 // Union is commutative.

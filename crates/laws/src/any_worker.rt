@@ -9,15 +9,15 @@ use table::refusals::Refusal;
 // What two calls of `crpd::answer` answered.
 #[derive(Clone, Copy)]
 pub struct Replies {
-    one: Result<Response, Refusal>,
-    other: Result<Response, Refusal>,
+    pub one: Result<Response, Refusal>,
+    pub other: Result<Response, Refusal>,
 }
 
 // What two calls of `crpd::report` answered.
 #[derive(Clone, Copy)]
 pub struct Reports {
-    one: Result<usize, Refusal>,
-    other: Result<usize, Refusal>,
+    pub one: Result<usize, Refusal>,
+    pub other: Result<usize, Refusal>,
 }
 
 // One question, asked by two workers.

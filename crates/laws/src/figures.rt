@@ -6,9 +6,10 @@ ghost use Rattle.analysis.specs.Costs.{charge_at};
 ghost use Rattle.laws.specs.Figures.{IsFigured, IsChargeFigured};
 
 use analysis::costs::{Charge, Single};
-use analysis::{Method, one_row};
+use analysis::{Method, blocked_row, one_row};
 use search::demand::Response;
 use table::Table;
+use table::accesses::plain_access;
 
 // The response of the task at i. Where there is a figure of it, it is that one.
 pub fn response(table: &Table, method: Method, i: usize) -> Response
@@ -25,6 +26,8 @@ pub fn charge(table: &Table, method: Single, i: usize, j: usize) -> Charge
     ensures value { result ≡ charge_at table.now method i j }
     ensures figure { IsChargeFigured table.now method i j result }
 {
-    let row = one_row::charged(table, method, i);
+    let mut row = one_row::charged(table, method, i);
+    let plain = plain_access(*table.task(i));
+    blocked_row::join(table, method, i, plain, &mut row);
     row[j]
 }

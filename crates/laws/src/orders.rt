@@ -3,12 +3,12 @@ ghost use Rattle.std.specs.Prelude.{◌≡◌, ℕ, ◌<◌, length};
 ghost use Rattle.table.specs.declared.accesses.Access.{Access};
 ghost use Rattle.analysis.specs.declared.costs.Single.{Single};
 ghost use Rattle.search.specs.Demand.{demand_of};
-ghost use Rattle.search.specs.Terms.{term_in, Handed};
+ghost use Rattle.search.specs.Terms.{term_in};
 ghost use Rattle.table.specs.Accepted.{AcceptedTable};
 ghost use Rattle.analysis.specs.Analysis.{response_of};
 ghost use Rattle.laws.specs.Permutations.{EachOnce};
 ghost use Rattle.laws.specs.Equation.{Arrangement, response_arranged};
-ghost use Rattle.laws.specs.Orders.{EasierRespondsFirst};
+ghost use Rattle.laws.specs.Orders.{Addable, EasierRespondsFirst};
 
 use analysis::Method;
 use cache::units::Ticks;
@@ -50,7 +50,8 @@ pub fn in_any_order(table: &Table, method: Method, i: usize) -> Response
 
 // The demand at `r`, with the terms taken in this order.
 pub fn demand_in_order(own: Ticks, terms: &[Term], order: &[usize], r: u64) -> u64
-    requires { Handed own.0 terms.now r × EachOnce 0 (length terms.now) order.now }
+    requires addable { Addable own.0 terms.now r }
+    requires order { EachOnce 0 (length terms.now) order.now }
     ensures { result ≡ demand_of own.0 (term_in terms.now) (length terms.now) r }
 {
     let mut demand = own.0;

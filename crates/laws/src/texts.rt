@@ -32,16 +32,16 @@ pub fn growth_left(text: &[u8], method: u64) -> Result<u64, Refusal>
     crpd::growth(text, method)
 }
 
-// A text, read and then written into a buffer that no accepted text is too long for.
+// A text, read and then written into a buffer that no accepted text is too long for; or why it is refused.
 pub fn read_then_written(text: &[u8], out: &mut [u8; 9293]) -> Result<usize, Refusal>
     ensures { ComesBack text.now out.old result out.new }
 {
     crpd::rewrite(text, out)
 }
 
-// A table, written and then read.
+// A table, written and then read; or, where no text gives it, that it has none.
 pub fn written_then_read(table: &Table, again: &mut Table) -> Result<(), Refusal>
-    ensures { IsReadAgain table.now result again.new }
+    ensures { IsReadAgain table.now again.old result again.new }
 {
     let mut out = [0u8; 9293];
     let len = crpd::write(table, &mut out)?;

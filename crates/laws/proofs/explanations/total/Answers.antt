@@ -1,5 +1,5 @@
 -- `laws::explanations::total` meets its contract.
-use Rattle.std.proofs.Common.{◌≡◌, ap, ◌∙◌}
+use Rattle.std.proofs.Common.{ℕ, ◌≡◌, ap, ◌∙◌, arith}
 use Rattle.cache.specs.declared.units.Ticks.{Ticks}
 use Rattle.laws.specs.Explanations.{sum_of}
 use Rattle.laws.proofs.ExplanationLaws.{explained-grounds, explained-time, adds-up}
@@ -21,3 +21,7 @@ returns c =
     (λ R f.
     let same : c.in-Within.time ≡ R = cc in
     c.total_of.ensures ∙ ap (λ (t : Ticks). sum_of a.table.now c.explained-need.result a.i t.0) same)
+    (λ none.
+    let is = c.in-Within.is in
+    let z : ◌≡◌ {A = ℕ} 0 1 = cc in
+    absurd (omega arith))

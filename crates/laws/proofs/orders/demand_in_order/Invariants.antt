@@ -1,10 +1,8 @@
--- The sum is the demand under the terms so far, and each adds so much at the most.
-use Rattle.std.proofs.Common.{◌≡◌, ◌+◌, ◌*◌, ◌≤◌, take}
+-- The sum is the demand under the terms so far.
+use Rattle.std.proofs.Common.{◌≡◌, take}
 use Rattle.search.specs.Terms.{term_in}
 use Rattle.laws.specs.Equation.{demand_over}
 use Rattle.laws.proofs.orders.demand_in_order.Given as goal
 
 abbrev pub invariant-loop-j : goal.invariant-loop-j
-invariant-loop-j l =
-    (l.demand ≡ demand_over l.fn.own.0 (term_in l.terms) (take l.j-index l.order) l.r)
-    × (l.demand ≤ l.fn.own.0 + l.j-index * 250000000000000000)
+invariant-loop-j l = l.demand ≡ demand_over l.fn.own.0 (term_in l.terms) (take l.j-index l.order) l.r

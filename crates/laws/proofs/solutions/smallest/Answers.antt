@@ -1,10 +1,14 @@
--- `laws::solutions::smallest` meets its contract: the search starts from one activation of each term.
-use Rattle.search.proofs.CountLaws.{ones-started}
-use Rattle.laws.proofs.SolutionLaws.{is-smallest}
+-- `laws::solutions::smallest` meets its contract.
+use Rattle.std.proofs.Common.{sym, ◌∙◌, arith}
+use Rattle.laws.proofs.SolutionLaws.{is-smallest, first-found, none-found}
 use Rattle.laws.proofs.solutions.smallest.Goals as goal
 
-pub least-requires : goal.least-requires
-least-requires c = rw c.firsts-counts.ensures (c.requires, ones-started c.requires)
+pub returns-then-asked-r : goal.returns-then-asked-r
+returns-then-asked-r g c =
+    let e = first-found _ _ c.loop-r.r c.loop-r.invariant (omega arith) (sym c.if-asked-r.true ∙ c.asked.ensures) in
+    record { value = e; means = is-smallest _ _ _ e }
 
-pub returns : goal.returns
-returns c = record { value = c.least.ensures.result_value; means = is-smallest c.requires _ c.least.ensures.result_value }
+pub returns-else-asked-r : goal.returns-else-asked-r
+returns-else-asked-r g c =
+    let e = none-found _ _ c.loop-r.r c.loop-r.invariant (omega arith) (λ q. c.if-asked-r.false (c.asked.ensures ∙ q)) in
+    record { value = e; means = is-smallest _ _ _ e }
