@@ -10,7 +10,7 @@ import re
 import sys
 
 ROOT = os.path.join(os.path.dirname(os.path.abspath(__file__)), "..")
-DRAWING = re.compile(r"^```\n(.*?)^```$", re.M | re.S)  # the page's code
+DRAWING = re.compile(r"^```text\n(.*?)^```$", re.M | re.S)  # the page's code
 DRAWN = re.compile(r"\[(\w+)\]")
 ROW = re.compile(r"^\| `(\w+)` \| (.+) \| (.+) \|$", re.M)
 MODULE_ROW = re.compile(r"^\| `(\w+::\w+)` \|", re.M)
