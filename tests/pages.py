@@ -1,5 +1,5 @@
 #!/usr/bin/env python3
-"""pages.py [PAGE..]: holds README.md and the pages of docs/ to the tree. Where pages are named it takes these alone.
+"""Holds README.md and the pages of docs/ to the tree.
 
 Each block of code on a page is `console`, `sh` or `text`. In a `console` block a line that begins with `$ ` is a command, and the lines below it, up to
 the next one, are what it prints, standard error too: the commands of a page run one after the other in a scratch copy, as from the repository, and each
@@ -42,8 +42,8 @@ ELSE = re.compile(r'(README\.md|docs/\w+\.md),? "([^"]+)"')  # a section of anot
 HERE = re.compile(r'"([^"\n]+)", (?:above|below)')  # one of this page
 PLACED = re.compile(r"((?:`[^`]+`(?: \((?![^()]*\.antt)[^()]*\))?(?:, | and )?)+) \(`(\w+/(?:specs|proofs)/[\w/]+\.antt)`\)")  # names and the file that has them
 MADE = re.compile(r"(?:target|crates/\w+/out)(?:/|$)")  # what is built and not kept
-DECLARED = re.compile(r"\b(?:fn|struct|enum|trait|mod|const|static|type|def)\s+([A-Za-z_]\w*)")
-FIELD = re.compile(r"^\s+(?:pub |ensures |requires )?([A-Za-z]\w*)(?:[:({,]| [={])", re.M)
+DECLARED = re.compile(r"\b(?:fn|struct|enum|trait|mod|const|static|type|def|impl(?:<[^>]*>)?(?: [\w:<>]+ for)?) +([A-Za-z_]\w*)")
+FIELD = re.compile(r"^\s+(?:pub )?([a-z]\w*): |^\s+(?:ensures|requires) (\w+) \{", re.M)
 DEFINED = re.compile(r"^ *(?:(?:abbrev|unfoldable|pub|record|data|intro) )*([^\s:(){}.,;`]+) *(?:[({].*)?:", re.M)
 VARIANT = re.compile(r"^\s+(?:pub )?([A-Z]\w*)\b", re.M)
 USED = re.compile(r"^(?:pub )?use Rattle\.(\w+)\.specs\.([\w.]+)\.\{", re.M)
@@ -149,8 +149,9 @@ def paths(page, text):
 def spans(path):
     """What a file of crates/ declares and defines."""
     text = read(path)
-    found = DECLARED.findall(text) + FIELD.findall(text) + VARIANT.findall(text) if path.endswith(".rt") else DEFINED.findall(text) + VARIANT.findall(text)
-    return set(found)
+    if path.endswith(".rt"):
+        return {*DECLARED.findall(text), *sum(FIELD.findall(text), ()), *VARIANT.findall(text)}
+    return {*DEFINED.findall(text), *VARIANT.findall(text)}
 
 
 class Names:
@@ -166,13 +167,9 @@ class Names:
         self.edits = {tuple(re.findall(r"crates/(\w+)/must-fail/(\w+)\.edit", path)[0]) for path in files("crates/*/must-fail/*.edit")}
 
     def path_is(self, name):
-        """Whether there is a function, type or module `a::b`, in the module, crate or type a."""
-        first, *_, last = name.split("::")
-        for path, found in self.of.items():
-            homes = path[:-3].split("/")[1:] if path.endswith(".rt") else ()
-            if last in found and (first in homes or first in found):
-                return True
-        return False
+        """Whether there is a function, type or module with this path, of crates, modules and types."""
+        sources = ((path.removesuffix(".rt").split("/"), found) for path, found in self.of.items() if path.endswith(".rt"))
+        return any(all(part in homes or part in found for part in name.split("::")) for homes, found in sources)
 
 
 def names(page, text):
@@ -236,7 +233,7 @@ def checks(page):
 def main():
     build()
     passed = failed = 0
-    for page in sys.argv[1:] or files("README.md", "docs/*.md"):
+    for page in files("README.md", "docs/*.md"):
         for where, wrong in checks(page):
             passed += not wrong
             failed += bool(wrong)

@@ -158,8 +158,8 @@ def drawn(text):
     same("how often the picture says that there is no response", texts.count("no response"), values.count("-"))
 
 
-def as_in_readme():
-    """The figures that README.md prints."""
+def as_in_the_rules():
+    """The figures that docs/RULES.md tells, with their statuses."""
     for method, growth in enumerate((1425, 970, 925, 1050, 1125, 1125)):
         fine(run("growth", METHODS[method], CONTROLLER), b"%d\n" % growth, int(growth < 1000))
         fine(run("growth", str(method), SHARED), b"4000\n", 0)
@@ -193,6 +193,6 @@ def cases():
     pairs = itertools.product(checks.items(), tables().items())
     return [("%s of %s" % (command, name), functools.partial(check, text)) for (command, check), (name, text) in pairs] + [
         ("show on a terminal", coloured),
-        ("the figures of README.md", as_in_readme),
+        ("the figures of docs/RULES.md", as_in_the_rules),
         ("the largest table", largest),
     ]

@@ -40,7 +40,7 @@ extern "C" {
 
 /// A refusal's number, and the line that it tells (0 where it tells none). Those of a text are 1 to 11,
 /// and 15 to 17 where it has access lines; 12 and 13 are those of a method and a position, and 14 that of
-/// a buffer. README.md says when each is given.
+/// a buffer. docs/RULES.md says when each is given.
 #[derive(Clone, Copy, Debug, PartialEq, Eq)]
 pub struct Refusal {
     pub number: u32,
