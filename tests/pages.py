@@ -4,8 +4,8 @@
 Each block of code on a page is `console`, `sh` or `text`. In a `console` block a line that begins with `$ ` is a command, and the lines below it, up to
 the next one, are what it prints, standard error too: the commands of a page run one after the other in a scratch copy, as from the repository, and each
 must print just that. A `sh` block has commands that no test can run, which UNTRIED names; `text` has none. Each path that a page names is there, and each
-section that it leads to. Each name in docs/PAPER.md, docs/ARCHITECTURE.md and docs/PROMISES.md is one of the tree, a law stands in the file that is told
-with it, and an edit in the crate. docs/PROMISES.md lists each file of definitions once, and as those on which the operations rest just the ones that their
+section that it leads to. Each name in the pages that are maps of the tree is one of the tree, a law stands in the file that is told with it, and an edit
+in the crate. docs/PROMISES.md lists each file of definitions once, and as those on which the operations rest just the ones that their
 definitions reach. One line for each thing that is wrong; the last line is `N passed, M failed`."""
 import glob
 import os
@@ -18,7 +18,7 @@ import tempfile
 from common import ROOT, SECONDS, build, environment
 
 HISTORY = "docs/PORT.md"  # it names what is gone
-MAPS = "docs/ARCHITECTURE.md", "docs/PAPER.md", "docs/PROMISES.md"  # they name what stands where
+MAPS = "docs/ARCHITECTURE.md", "docs/DEVELOPING.md", "docs/PAPER.md", "docs/PROMISES.md"  # they name what stands where
 PROMISES = "docs/PROMISES.md"
 COPIED = "docs", "examples"  # what commands may write into; all else is lent to them as it is
 UNTRIED = {  # the first words of commands that are shown and not run, and why
@@ -30,8 +30,9 @@ UNTRIED = {  # the first words of commands that are shown and not run, and why
     "rt": "it proves",
     "tools/library.sh": "a step of the gate",
 }
-ELSEWHERE = {  # names that pages have of the kit and the operating system
-    "Perm", "Read", "Result", "Write", "bool", "contents", "crpd-report", "ensures", "errno", "remaining", "requires", "result",
+ELSEWHERE = {  # names that they have of the language, the kit and Debian
+    "Bool", "Nat", "Perm", "Read", "Result", "Write", "abbrev", "apt-get", "bool", "contents", "crpd-report", "ensures", "errno", "f-2", "f-in-loop-j",
+    "flat_map", "librsvg2-bin", "list_all", "nat_le", "nat_lt", "remaining", "requires", "result", "slice_index", "slice_index_or", "unfoldable", "while",
 }
 
 FENCE = re.compile(r"^```(\w*)\n(.*?)^```$", re.M | re.S)
@@ -165,6 +166,7 @@ class Names:
             if path.endswith((".rs", ".py")):
                 self.all |= set(DECLARED.findall(read(path)))
         self.edits = {tuple(re.findall(r"crates/(\w+)/must-fail/(\w+)\.edit", path)[0]) for path in files("crates/*/must-fail/*.edit")}
+        self.labels = {label for _, label in self.edits}
 
     def path_is(self, name):
         """Whether there is a function, type or module with this path, of crates, modules and types."""
@@ -182,10 +184,10 @@ def names(page, text):
         crate = re.findall(r"`(\w+)/must-fail/", text[start : found.start()])  # an edit is named without the folder where it stands beside another one
         if re.fullmatch(r"\w+(?:::\w+)+", name):
             right = tree.path_is(name)
-        elif crate and (crate[-1], name) in tree.edits:
-            right = True
+        elif crate and name in tree.labels:
+            right = (crate[-1], name) in tree.edits
         elif re.fullmatch(r"[^\W\d][\w-]{2,}", name):
-            right = name in tree.all
+            right = name in tree.all or name in tree.labels
         else:
             continue
         yield place(page, text, found), "" if right else "nothing is called %s" % found[1]
