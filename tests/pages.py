@@ -17,6 +17,7 @@ import tempfile
 
 from common import ROOT, SECONDS, build, environment
 
+FIRST, MOST = "README.md", 10000  # whoever comes new reads no more bytes than these
 HISTORY = "docs/PORT.md"  # it names what is gone
 MAPS = "docs/ARCHITECTURE.md", "docs/DEVELOPING.md", "docs/PAPER.md", "docs/PROMISES.md"  # they name what stands where
 PROMISES = "docs/PROMISES.md"
@@ -32,7 +33,8 @@ UNTRIED = {  # the first words of commands that are shown and not run, and why
 }
 ELSEWHERE = {  # names that they have of the language, the kit and Debian
     "Bool", "Nat", "Perm", "Read", "Result", "Write", "abbrev", "apt-get", "bool", "contents", "crpd-report", "ensures", "errno", "f-2", "f-in-loop-j",
-    "flat_map", "librsvg2-bin", "list_all", "nat_le", "nat_lt", "remaining", "requires", "result", "slice_index", "slice_index_or", "unfoldable", "while",
+    "flat_map", "librsvg2-bin", "list_all", "nat_le", "nat_lt", "remaining", "requires", "result", "slice_index", "slice_index_or", "unfoldable",
+    "unfolding", "while",
 }
 
 FENCE = re.compile(r"^```(\w*)\n(.*?)^```$", re.M | re.S)
@@ -43,6 +45,7 @@ ELSE = re.compile(r'(README\.md|docs/\w+\.md),? "([^"]+)"')  # a section of anot
 HERE = re.compile(r'"([^"\n]+)", (?:above|below)')  # one of this page
 PLACED = re.compile(r"((?:`[^`]+`(?: \((?![^()]*\.antt)[^()]*\))?(?:, | and )?)+) \(`(\w+/(?:specs|proofs)/[\w/]+\.antt)`\)")  # names and the file that has them
 MADE = re.compile(r"(?:target|crates/\w+/out)(?:/|$)")  # what is built and not kept
+# what code, and what definitions and proofs, give a name
 DECLARED = re.compile(r"\b(?:fn|struct|enum|trait|mod|const|static|type|def|impl(?:<[^>]*>)?(?: [\w:<>]+ for)?) +([A-Za-z_]\w*)")
 FIELD = re.compile(r"^\s+(?:pub )?([a-z]\w*): |^\s+(?:ensures|requires) (\w+) \{", re.M)
 DEFINED = re.compile(r"^ *(?:(?:abbrev|unfoldable|pub|record|data|intro) )*([^\s:(){}.,;`]+) *(?:[({].*)?:", re.M)
@@ -179,7 +182,7 @@ def names(page, text):
     tree = Names()
     text = prose(text)
     for found in CODE.finditer(text):
-        name = found[1].removesuffix("()")
+        name = re.sub(r"\(.*\)$", "", found[1])  # of a call what is called
         start = max(text.rfind("\n\n", 0, found.start()), text.rfind("\n|", 0, found.start()), text.rfind(" | ", 0, found.start()))
         crate = re.findall(r"`(\w+)/must-fail/", text[start : found.start()])  # an edit is named without the folder where it stands beside another one
         if re.fullmatch(r"\w+(?:::\w+)+", name):
@@ -223,6 +226,8 @@ def definitions(page, text):
 def checks(page):
     text = read(page)
     yield from commands(page, text)
+    if page == FIRST:
+        yield page, "" if len(text.encode()) <= MOST else "it is longer than %d bytes" % MOST
     if page != HISTORY:
         yield from sections(page, text)
         yield from paths(page, text)
