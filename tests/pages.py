@@ -218,7 +218,7 @@ def definitions(page, text):
     for path in sorted({*everywhere, *files("crates/*/specs/**/*.antt")}):
         if not path.endswith("/Lib.antt"):
             yield page, "" if everywhere.count(path) == 1 and there(path) else "%s is listed %d times" % (path, everywhere.count(path))
-    rested = reached("crates/crpd/specs/Operations.antt") | reached("crates/crpd/specs/Codes.antt")
+    rested = {path for root in files("crates/crpd*/specs/*.antt") for path in reached(root) if not path.endswith("/Lib.antt")}
     for path in sorted(rested ^ set(listed[1])):
         yield page, "the operations rest on %s" % path if path in rested else "no operation rests on %s" % path
 
