@@ -1,0 +1,147 @@
+#!/usr/bin/env python3
+"""plain_rust.py OUT CRATE..: the sources of these crates, and of those below them, as plain Rust in OUT, compiled by rustc in seconds: contracts, ghosts and tactics are
+taken out, and every type can be shown by `{:?}`. What comes out is proved by nobody. It is for what wants many builds or no proof: programs with an error in them, and counts
+of turns. As a module: `build(root, out, names, changes)`.
+
+What stands for a crate of the kit: `memchr` is a line below. A program's `main` gets a stand-in for Rattle's runtime, which has the three standard streams."""
+import os
+import re
+import subprocess
+import sys
+
+# Crates of the kit, and what stands for them here.
+KIT = {"memchr": "pub fn memchr(c: u8, s: &[u8]) -> Option<usize> { s.iter().position(|x| *x == c) }\n"}
+
+RUNTIME = """
+pub struct HostRuntime;
+impl HostRuntime {
+    pub fn stdin(&self) -> std::io::Stdin { std::io::stdin() }
+    pub fn stdout(&self) -> std::io::Stdout { std::io::stdout() }
+    pub fn stderr(&self) -> std::io::Stderr { std::io::stderr() }
+}
+"""
+
+# What begins a line and is no part of the program: a clause, or a ghost item.
+GHOST = re.compile(r"^[ \t]*(requires|ensures|ghost)\b", re.M)
+MODEL = re.compile(r"^impl[^\n{]*\bModel for[^{]*\{", re.M)
+TYPE = re.compile(r"^([ \t]*)((?:pub(?:\([a-z]+\))? )?(?:struct|enum) )", re.M)
+
+
+def behind(text, at):
+    """The place behind the braces that open first from here on. Braces in a clause come in pairs, in strings and characters too."""
+    depth = 0
+    for at in range(text.index("{", at), len(text)):
+        depth += {"{": 1, "}": -1}.get(text[at], 0)
+        if depth == 0:
+            return at + 1
+    raise ValueError("braces that are not closed")
+
+
+def plain(text):
+    """A file's text without what is proved."""
+    while found := GHOST.search(text):
+        if found[0].split()[0] == "ghost" and re.match(r"[ \t]*ghost use\b", text[found.start() :]):
+            end = text.index(";", found.start()) + 1
+        else:
+            end = behind(text, found.start())
+            end += text[end : end + 1] in (",", ";") and (found[1] == "ghost" or text[end : end + 1] == ",")
+        text = text[: found.start()] + text[end:]
+    while found := MODEL.search(text):
+        text = text[: found.start()] + text[behind(text, found.start()) :]
+    text = re.sub(r"[ \t]*#!?\[tactic\([^\]]*\)\]\n?", "", text)
+    text = text.replace("use std::marker::Model;\n", "").replace("ErrorKind, Print, ", "ErrorKind, ").replace("b'{'", "123").replace("b'}'", "125")
+    # each type is shown by Debug, and none needs the leave to be dropped
+    text = re.sub(r"[ \t]*#\[derive\(([^)]*)\)\]\n", lambda found: "" if not (kept := [it for it in re.split(r",\s*", found[1]) if it not in ("Drop", "Model", "Debug")]) else "#[derive(%s)]\n" % ", ".join(kept), text)
+    return TYPE.sub(r"\1#[derive(Debug)] \2", text)
+
+
+def crates(root):
+    """Of each crate of crates.txt the crates that it uses."""
+    uses = {}
+    with open(root + "/crates.txt", encoding="utf-8") as lines:
+        for line in lines:
+            name, colon, used = line.partition("#")[0].partition(":")
+            if colon:
+                uses[name.split()[0]] = used.split()
+    return uses
+
+
+def below(uses, names):
+    """These crates and those below them, each behind those that it uses, with those of the kit."""
+    order = []
+
+    def visit(name):
+        if name not in order:
+            for used in uses.get(name, []):
+                visit(used)
+            order.append(name)
+
+    for name in names:
+        visit(name)
+    return order
+
+
+def sources(root, name, changes=None):
+    """The files of a crate as plain Rust, by their path below src/, each ending in .rs. `changes` are texts that stand in place of a file's own, by its path in the crate
+    (`src/lib.rt`)."""
+    if name in KIT:
+        return {"lib.rs": KIT[name]}
+    top = "%s/crates/%s/src" % (root, name)
+    found = {}
+    for at, _, files in os.walk(top):
+        for file in sorted(files):
+            if file.endswith(".rt"):
+                path = os.path.relpath("%s/%s" % (at, file), top)
+                text = (changes or {}).get("src/" + path)
+                if text is None:
+                    with open("%s/%s" % (top, path), encoding="utf-8") as it:
+                        text = it.read()
+                text = plain(text)
+                if file == "main.rt":
+                    text = text.replace("fn main(rt: HostRuntime)", "fn main() -> ExitCode {\n    started(HostRuntime)\n}\n\nfn started(rt: HostRuntime)") + RUNTIME
+                found[path[:-1] + "s"] = text
+    return found
+
+
+def write(folder, files):
+    """Writes files below a folder."""
+    for path, text in files.items():
+        file = "%s/%s" % (folder, path)
+        os.makedirs(os.path.dirname(file), exist_ok=True)
+        with open(file, "w", encoding="utf-8") as it:
+            it.write(text)
+
+
+def rustc(words, folder):
+    """Calls rustc, and says what it said where it fails."""
+    ran = subprocess.run(["rustc", "--edition", "2021", "-A", "warnings", *words], cwd=folder, stdin=subprocess.DEVNULL, stdout=subprocess.PIPE, stderr=subprocess.STDOUT, text=True)
+    if ran.returncode:
+        raise ValueError("rustc %s:\n%s" % (" ".join(words), ran.stdout[-4000:]))
+
+
+def used(out, uses, name):
+    """The words by which rustc finds the libraries that a crate uses."""
+    words = ["-L", out]
+    for it in uses[name] if name in uses else []:
+        words += ["--extern", "%s=%s/lib%s.rlib" % (it, out, it)]
+    return words
+
+
+def build(root, out, names, changes=None, options=("-C", "opt-level=3")):
+    """Builds these crates and those below them as rlibs in `out`, a folder: out/libNAME.rlib, from out/src/NAME/*.rs, or out/NAME of a program. `changes` has of a crate the texts in place of its
+    files': {"search": {"src/hasten.rt": text}}. Returns the words with which rustc builds a program over them."""
+    out, uses = os.path.abspath(out), crates(root)
+    words = ["-L", out]
+    for name in below(uses, names):
+        files = sources(root, name, (changes or {}).get(name))
+        write("%s/src/%s" % (out, name), files)
+        root_file = "lib.rs" if "lib.rs" in files else "main.rs"
+        kind = "rlib" if root_file == "lib.rs" else "bin"
+        rustc(["--crate-type", kind, "--crate-name", name, *options, *used(out, uses, name), "--out-dir", out, "src/%s/%s" % (name, root_file)], out)
+        if kind == "rlib":
+            words += ["--extern", "%s=%s/lib%s.rlib" % (name, out, name)]
+    return words
+
+
+if __name__ == "__main__":
+    print(" ".join(build(os.path.dirname(os.path.dirname(os.path.abspath(__file__))), sys.argv[1], sys.argv[2:])))
