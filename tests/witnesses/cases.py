@@ -1,0 +1,453 @@
+"""cases.py: cases to look for witnesses among, by crate: some of each kind that the public functions tell apart, and some that are drawn, always the same."""
+import random
+
+FULL = [2**64 - 1] * 4
+SETS = [[0] * 4, [1, 0, 0, 0], [0, 2, 0, 0], [0, 0, 4, 0], [0, 0, 0, 8], [1, 2, 4, 8], [3, 5, 9, 17], [7, 7, 7, 7], FULL]
+METHODS = range(6)
+
+
+def text(bytes_or_str):
+    """A text as a word of a case; long runs of one byte are written short."""
+    found, last = [], bytes_or_str.encode("latin-1") if isinstance(bytes_or_str, str) else bytes_or_str
+    said = "".join({10: "\\n", 9: "\\t", 34: '\\"', 92: "\\\\"}.get(b, chr(b) if 32 <= b < 127 else "\\x%02x" % b) for b in last)
+    found.append('"%s"' % said)
+    return "".join(found)
+
+
+def words(numbers):
+    return ",".join(map(str, numbers)) or "-"
+
+
+def name(k):
+    return "abcdefghijklmnopqrstuvwxyz"[k % 26] + ("" if k < 26 else str(k // 26))
+
+
+def digits(mask, sets):
+    return "%0*x" % (sets // 4, mask)
+
+
+def head(sets, brt):
+    return "K\t%d\t%d\n" % (sets, brt)
+
+
+def task(k, work, period, deadline, jitter, blocking, ucb, ecb, sets, called=None):
+    return "T\t%s\t%d\t%d\t%d\t%d\t%d\t%s\t%s\n" % (called or name(k), work, period, deadline, jitter, blocking, digits(ucb, sets), digits(ecb, sets))
+
+
+def access(k, c, lasts, ucb, sets):
+    return "A\t%s\t%s\t%d\t%s\n" % (name(k), name(c), lasts, digits(ucb, sets))
+
+
+def table(draw, n=None, light=True):
+    """A text that is accepted, of n tasks; with accesses, or blocking, or neither."""
+    sets = draw.choice([4, 4, 8, 8, 64, 128, 256])
+    n = n or draw.randint(1, 6)
+    kind = draw.choice(["none", "blocking", "accesses", "accesses"])
+    lines = [head(sets, draw.choice([0, 1, 1, 2, 3]))]
+    for k in range(n):
+        period = draw.randint(8, 40) * (k + 1) * (2 if light else 1)
+        deadline = draw.choice([period, draw.randint(max(1, period // 2), period)])
+        work = draw.randint(1, max(1, period // (n + draw.randint(0, 3))))
+        jitter = draw.choice([0, 0, draw.randint(0, deadline // 3)])
+        blocking = draw.choice([0, draw.randint(0, 9)]) if kind == "blocking" else 0
+        lines.append(task(k, work, period, deadline, jitter, blocking, mask(draw, sets), mask(draw, sets), sets))
+    if kind == "accesses":
+        for _ in range(draw.randint(1, 4)):
+            k = draw.randrange(n)
+            lines.append(access(k, draw.randint(0, k), draw.randint(1, 9), mask(draw, sets), sets))
+    return "".join(lines), n
+
+
+def mask(draw, sets):
+    return draw.getrandbits(sets) & (draw.getrandbits(sets) | draw.getrandbits(sets))
+
+
+def tables(seed, count, light=True):
+    draw = random.Random(seed)
+    return [table(draw, light=draw.random() < 0.6) for _ in range(count)]
+
+
+def many_tasks(n, last=""):
+    return head(4, 1) + "".join("T\t%s\t1\t%d\t%d\t0\t0\t3\tf\n" % (name(k), 100 + k, 100 + k) for k in range(n)) + last
+
+
+def many_accesses(n, last=""):
+    return head(4, 1) + task(0, 1, 20, 20, 0, 0, 3, 15, 4) + task(1, 1, 30, 30, 0, 0, 3, 15, 4) + "A\tb\ta\t1\t3\n" * n + last
+
+
+def lines():
+    """Lines of a table below line 1 that tell fields, ranges and their order apart; the table has 4 cache sets."""
+    good = ["T", "a", "1", "20", "20", "0", "0", "0", "f"]
+    found = ["\t".join(good)]
+    swaps = {0: ["U", "t", "TT", ""], 1: ["", "A", "a-1", "b", "abcdefgh-012", "abcdefgh-0123", "a\0", "_", "/", ":", "`", "{", "a b", "a\xc8"], 7: ["g", "", "0f", "F", "1", "/", ":", "`"], 8: ["g", "", "00", "1", "F", "a", "e"]}
+    for k in range(2, 7):
+        swaps[k] = ["", "x", "01", "00", "0", "1", "2", "19", "21", "250000000", "250000001", "999999999", "1000000000", "+1", "-", "2o", "/", ":", "9", "10"]
+    for k, values in swaps.items():
+        for value in values:
+            found.append("\t".join([*good[:k], value, *good[k + 1 :]]))
+            for j in range(k + 1, 9):
+                for other in swaps[j][:3]:
+                    found.append("\t".join([*good[:k], value, *good[k + 1 : j], other, *good[j + 1 :]]))
+    for k in range(10):
+        found += ["\t".join(good[:k]), "\t".join(good[:k]) + "\t", "\t".join([*good[:k], "0", *good[k:]])]
+    found += ["\t".join([*good, "0"]), "\t".join([*good, ""]), "\t".join([*good, "0", "0"]), "\t".join(good) + "\r", "", "T\ta\t1\t9\t9\t8\t7\t3\tc", "T\ta\t1\t40\t30\t20\t10\t3\tc"]
+    return sorted(set(found))
+
+
+def access_lines():
+    good = ["A", "c", "a", "5", "3"]
+    swaps = {0: ["a", "T", "AA", ""], 1: ["C", "d", "b", "a", ""], 2: ["A", "d", "b", "c", ""], 3: ["x", "0", "1", "05", "250000000", "250000001", "1000000000", "9", ""], 4: ["g", "", "0", "33", "f", "F"]}
+    found = ["\t".join(good)]
+    for k, values in swaps.items():
+        for value in values:
+            found.append("\t".join([*good[:k], value, *good[k + 1 :]]))
+            for j in range(k + 1, 5):
+                for other in swaps[j]:
+                    found.append("\t".join([*good[:k], value, *good[k + 1 : j], other, *good[j + 1 :]]))
+    for k in range(6):
+        found += ["\t".join(good[:k]), "\t".join([*good[:k], "0", *good[k:]])]
+    found += ["\t".join([*good, ""]), "\t".join([*good, "0", "0", "0", "0"]), "A\tb\tc\t5\t3", "A\ta\tb\t5\t3", "A\tb\tb\t5\t3", "\t".join(good) + "\r"]
+    return sorted(set(found))
+
+
+THREE = head(4, 1) + "T\ta\t1\t20\t20\t0\t0\t0\tf\nT\tb\t2\t40\t40\t0\t0\t3\tf\nT\tc\t2\t60\t60\t0\t0\tc\tf\n"
+
+
+def heads():
+    found = []
+    for sets in ["4", "0", "2", "6", "3", "8", "256", "260", "258", "252", "64", "04", "", "x", "1000000000", "999999999"]:
+        for brt in ["1", "0", "100000", "100001", "x", "", "00", "1000000000"]:
+            found.append("K\t%s\t%s" % (sets, brt))
+    return found + ["K", "k\t4\t1", "KK\t4\t1", "K\t4", "K\t4\t1\t", "K\t4\t1\t1", "K\t4\t1\t1\t1", "T\t4\t1", "", "\t4\t1", "K 4 1", "K\t4\t1\r"]
+
+
+def texts():
+    """Texts, accepted and refused."""
+    found = [THREE, "", "\n", "a", "K\t4\t1", "K\t4\t1\n", THREE[:-1], THREE + "\n", THREE.replace("\n", "\r\n"), THREE.replace("\n", "\r")]
+    found += [line + "\n" for line in heads()] + [line + "\nU\n" for line in heads()[::9]]
+    found += [head(4, 1) + line + "\n" for line in lines()] + [THREE + line + "\n" for line in access_lines()]
+    found += [THREE + "T\ta\t1\t20\t20\t0\t0\t0\tf\n", THREE + "T\tb\t1\t20\t21\t0\t0\t0\tf\n", THREE + "T\td\t1\t20\t20\t0\t0\t0\tf\n", THREE + "U\n", THREE + "K\t4\t1\n", THREE + "A\tc\ta\t5\t3\nT\td\t1\t20\t20\t0\t0\t0\tf\n"]
+    found += [THREE + "A\tc\ta\t5\t3\nT\tA\n", THREE + "A\tc\ta\t5\t3\nU\n", THREE + "A\tc\ta\t5\t3\nA\tc\tb\t5\t3\nA\ta\ta\t5\t3\n"]
+    plain = "T\ta\t1\t20\t20\t0\t%d\t0\tf\nT\tb\t1\t20\t20\t0\t%d\t0\tf\nT\tc\t1\t20\t20\t0\t%d\t0\tf\n"
+    for blocking in [(1, 0, 0), (0, 1, 0), (0, 0, 1), (0, 1, 2), (1, 2, 3)]:
+        found += [head(4, 1) + plain % blocking, head(4, 1) + plain % blocking + "A\tc\ta\t5\t3\n", head(4, 1) + plain % blocking + "A\ta\td\t5\t3\n"]
+    found += [head(4, 1) + "A\tc\ta\t5\t3\n", head(4, 1) + "A\tc\ta\t5\t3\nT\ta\t1\t20\t20\t0\t0\t0\tf\n"]
+    for n in (31, 32, 33, 34):
+        found += [many_tasks(n), many_tasks(n, "T\tA\n"), many_tasks(n, "U\n"), many_tasks(n, "A\tb\ta\t1\t3\n"), many_tasks(n, "A\tb\ta\t1\t3\nT\tzz\t1\t20\t20\t0\t0\t0\tf\n"), many_tasks(n, "T\ta\t1\t20\t20\t0\t0\t0\tf\n")]
+        found += [many_accesses(n), many_accesses(n, "A\n"), many_accesses(n, "U\n"), many_accesses(n, "T\tc\t1\t20\t20\t0\t0\t0\tf\n")]
+    found += [head(256, 1) + "T\ta\t1\t20\t20\t0\t0\t%s\t%s\n" % ("0123456789abcdef" * 4, "f" * 64), head(64, 1) + "T\ta\t1\t20\t20\t0\t0\t%s\t%s\n" % ("0123456789abcdef", "f" * 16)]
+    found += [head(256, 100000) + "T\tabcdefgh-012\t250000000\t250000000\t250000000\t250000000\t250000000\t%s\t%s\n" % ("0123456789abcdef" * 4, "f" * 64)]
+    return found
+
+
+def long_texts():
+    """Texts at the edge of what a text may have, as words."""
+    found = []
+    for n in (16383, 16384, 16385, 16386):
+        found += ['"a"*%d' % n, '"a"*%d+"\\n"' % (n - 1), '"\\n"*%d' % n]
+    for n in (16384 - len(THREE), 16385 - len(THREE)):
+        found += [text(THREE) + '+"U"*%d+"\\n"' % (n - 1)]
+    return found
+
+
+def buffers(longest):
+    return [0, 1, longest - 1, longest, longest + 1, longest + 9]
+
+
+def of_cache():
+    found, draw = [], random.Random(1)
+    sets = SETS + [[draw.getrandbits(64) for _ in range(4)] for _ in range(4)]
+    for a in sets:
+        found += ["size %s" % words(a), "at %s,%s 0" % (words(a), words(sets[5])), "at %s,%s 1" % (words(sets[5]), words(a)), "store %s 0,0,0,0,0,0,0,0 1" % words(a), "store %s 9,9,9,9 0" % words(a)]
+        for b in sets:
+            found += ["union %s %s" % (words(a), words(b)), "intersection %s %s" % (words(a), words(b)), "shared_size %s %s" % (words(a), words(b))]
+    for field in ["", "0", "f", "9", "a", "F", "A", "G", "g", "/", ":", "@", "`", "10", "0f", "f0", "1g", "g1", "123456789abcdef0", "0123456789abcdef" * 2, "0123456789abcdef" * 4, "1" + "0" * 16, "1" + "0" * 32, "1" + "0" * 48, "8" + "0" * 63, "fedcba9876543210" * 3, "g" + "0" * 63, "0" * 63 + "g", "1" * 63, "2" * 62, "3" * 47, "4" * 33, "5" * 17]:
+        if len(field) <= 64:
+            found.append("read_words %s" % text(field))
+        for sets in {0, 4, 8, 64, 256, 260, 4 * len(field), 2 * len(field), 4 * len(field) + 1, 8 * len(field)}:
+            found.append("from_field %s %d" % (text(field), sets))
+    found += ['from_field "%s" 260' % ("0" * 65), 'from_field "%s" 512' % ("0" * 128)]
+    for n in (0, 1, 2, 255, 2048):
+        found += ["time %d %d" % (n, brt) for brt in (0, 1, 2, 7, 100000)]
+    return found
+
+
+def of_table():
+    found = ["empty"]
+    found += ["read %s" % text(it) for it in texts()] + ["read %s" % it for it in long_texts()]
+    found += ["read %s" % text(it) for it, _ in tables(2, 60)]
+    for n in (0, 1, 2, 5, 31, 32):
+        if n:
+            found += ["tasks %s -" % text(many_tasks(n)), "accesses %s -" % text(many_accesses(n))] + ["task %s - %d" % (text(many_tasks(n)), k) for k in {0, n // 2, n - 1}]
+    found += ["accesses %s -" % text(THREE), "tasks %s count=0" % text(THREE), "accesses %s access_count=2" % text(THREE), "tasks %s count=2" % text(THREE), "tasks %s count=33" % text(THREE), "tasks %s count=40" % text(THREE), "accesses %s access_count=40" % text(THREE), "accesses %s access_count=31" % text(THREE), "tasks %s count=31" % text(THREE)]
+    for change in ["-", "count=0", "access_count=1", "t0.blocking=1", "t1.blocking=1", "t2.blocking=9;t1.blocking=1", "t0.blocking=1;access_count=1", "t1.blocking=1;access_count=1", "t2.blocking=9;t1.blocking=1;access_count=2", "count=0;access_count=1", "t2.blocking=1;access_count=32", "t3.blocking=1;access_count=1"]:
+        found.append("check_end %s %s" % (text(THREE), change))
+    for line in ["", "\n", "a", "a\n", "a\nb", "a\nb\n", "\n\n", "a\n\nb", "a\r\nb\r\n", "\na", "a\tb\n", "ab\ncd\nef", "a\rb"]:
+        found += ["next_line %s" % text(line), "lines %s" % text(line)]
+    for line in ["", "\t", "a", "a\t", "\ta", "a\tb", "ab\tcd\tef", "a\t\tb", "abc\td", "abcd\te", "abcde\tf", "abcdefg\th", "abcdefgh\ti", "abcdefgh", "abcdefghi\tj\tk", "\t\t\t\t", "a\t\t\t\tb", "aaaaaaaaaaaaaaaaaaaaaaa\tb", "a b", "T\ta\t1\t20\t20\t0\t0\t0\tf"]:
+        found += ["first_field %s" % text(line), "fields %s" % text(line)] + ["is_done %s %d" % (text(line), k) for k in range(5)]
+    for field in ["", "0", "1", "9", "00", "01", "10", "12", "99", "123456789", "999999999", "1000000000", "0123456789", "12345678", "x", "1x", "x1", "+1", "-1", " 1", "/", ":", "1:", "1/", "250000000", "a", "9/"]:
+        found.append("read_number %s" % text(field))
+    for field in ["", "a", "z", "A", "Z", "0", "9", "-", "_", "`", "{", "/", ":", ".", ",", "a-1", "abcdefghijkl", "abcdefghijklm", "abcdefghijk", "aB", "a\0", "\0", "a b", "a\xc8", "aA", "Aa"]:
+        found += ["is_name %s" % text(field), "name_of %s" % text(field)] * (len(field) <= 12) + ["is_name %s" % text(field)]
+        if len(field) <= 12:
+            found += ["name_text %s" % text(field), "is_filled %s" % text(field), "position_of %s %s -" % (text(field), text(THREE)), "is_known %s %s -" % (text(field), text(THREE))]
+    for field in ["a\0b", "\0a", "a\0\0b", "abcdefghijk\0", "a\0\0\0\0\0\0\0\0\0\0b", "a", "b", "c", "d", "ab", "ca", "abcdefghijkl"]:
+        found += ["name_text %s" % text(field), "is_filled %s" % text(field)]
+        for n in (1, 2, 3, 32):
+            found += ["position_of %s %s -" % (text(field), text(many_tasks(n))), "is_known %s %s -" % (text(field), text(many_tasks(n)))]
+    found += ["position_of %s %s t2.name=97" % (text("a"), text(THREE)), "position_of %s %s t1.name=99" % (text("c"), text(THREE)), "is_known %s %s count=2" % (text("c"), text(THREE)), "position_of %s %s count=0" % (text("a"), text(THREE))]
+    for low, high in [(1, 5), (0, 5), (5, 5), (5, 1), (0, 250000000), (1, 250000000)]:
+        found += ["is_within %d %d %d" % (low, high, n) for n in {0, 1, low, high, low + 1, high - 1 if high else 0, high + 1, (low + high) // 2, 250000000, 250000001}]
+    for a in ["", "a", "b", "ab", "ac", "bb", "abc", "abd", "aa", "ba", "abcdefghijkl", "abcdefghijkm"]:
+        found += ["same_bytes %s %s" % (text(a), text(b)) for b in ["", "a", "b", "ab", "abc", "bb", "aa", "abcdefghijkl", "bbc"]]
+    found += ["%s %d" % (it, k) for it in ("number", "untold") for k in range(18)]
+    found += ["may_block %d %d %d" % (t, c, i) for t in range(4) for c in range(4) for i in range(4)]
+    found += ["plain_access %s %s %d" % (text(THREE), change, k) for change in ("-", "t0.blocking=5;t1.blocking=7;t2.blocking=9") for k in range(3)]
+    found += ["head %s" % text(it) for it in heads()] + ["head_in_range %d %d" % (sets, brt) for sets in (0, 1, 2, 3, 4, 5, 6, 8, 252, 254, 255, 256, 257, 260, 512) for brt in (0, 1, 99999, 100000, 100001)]
+    found += ["task_line %s 4 %s -" % (text(it), text(head(4, 1) + "T\tzz\t1\t20\t20\t0\t0\t0\tf\n")) for it in lines()] + ["task_line %s 4 %s -" % (text(it), text(THREE)) for it in lines()[::7]]
+    found += ["access_line %s 4 %s -" % (text(it), text(THREE)) for it in access_lines()]
+    for field, values in {"work": (0, 1, 250000000, 250000001), "period": (0, 19, 20, 21, 250000000, 250000001), "deadline": (0, 1, 19, 20, 21, 250000000, 250000001), "jitter": (0, 1, 19, 20, 21, 250000001), "blocking": (0, 1, 250000000, 250000001)}.items():
+        found += ["is_timely %s t0.%s=%d 0" % (text(THREE), field, n) for n in values]
+    found += ["is_timely %s t0.period=250000001;t0.deadline=250000001;t0.jitter=%d 0" % (text(THREE), n) for n in (0, 250000001)]
+    return found
+
+
+def draw_terms(draw, n, tight=False):
+    found = []
+    for _ in range(n):
+        period = draw.choice([draw.randint(2, 30), draw.randint(2, 300), draw.randint(100, 20000)])
+        weight = draw.randint(1, max(1, period // (n + 1))) if not tight else max(1, period // n - draw.randint(0, 1))
+        found.append((period, draw.choice([0, draw.randint(0, period)]), weight))
+    return found
+
+
+def written_terms(terms):
+    return ",".join("%d/%d/%d" % it for it in terms) or "-"
+
+
+def of_search():
+    found, draw = [], random.Random(3)
+    single = [(1, 0, 1), (2, 0, 1), (2, 1, 1), (3, 3, 2), (5, 2, 3), (10, 0, 10), (7, 0, 20), (20000, 5, 3), (250000000, 250000000, 500000000), (3, 0, 0), (16384, 0, 16383), (16385, 7, 1)]
+    for it in single:
+        found += ["work %d/%d/%d %d" % (*it, r) for r in (0, 1, 2, 3, 5, 6, 7, 100, 250000000)] + ["share %d/%d/%d" % it, "once %d/%d/%d" % it]
+    lists = [[], *([it] for it in single), *(draw_terms(draw, draw.randint(1, 5)) for _ in range(60)), *(draw_terms(draw, draw.randint(2, 6), True) for _ in range(40)), [(10, 0, 5), (10, 0, 5)], [(2, 0, 1), (4, 0, 2)], [(3, 0, 1)] * 3, [(3, 0, 1)] * 2, draw_terms(draw, 32)]
+    for it in lists:
+        said = written_terms(it)
+        found += ["left_by %s" % said, "listed %s" % said, "firsts %s" % said]
+        for own in (1, 2, 7, 100, 5000):
+            found += ["demand_at %d %s %d" % (own, said, r) for r in (0, 1, 6, 50)]
+            limits = sorted({1, own, 3 * own + 5, 20 * own, 5000, 100000})
+            found += ["least %d %s %d" % (own, said, limit) for limit in limits] + ["least %d %s %s" % (own, said, words(limits))]
+            found += ["least_beyond %d %s %d %d" % (own, said, limit, known) for limit in limits[::2] for known in (0, 1, own + 3, 400, 6000)]
+            found += ["hasten %d %s %d" % (own, said, limit) for limit in limits if own <= limit]
+    # searches that go on for long: little is left of the processor
+    for _ in range(60):
+        n = draw.randint(2, 6)
+        base = draw.choice([(10, 20, 40, 80), (12, 18, 24, 36, 72), (100, 150, 300, 450), (64, 96, 128, 192), (1000, 1500, 3000), (7, 11, 13), (20000, 30000, 40000), (16384, 8192), (50, 16385)])
+        terms, left = [], 1.0
+        for k in range(n):
+            period = draw.choice(base)
+            weight = max(1, int(period * left / (n - k))) if k < n - 1 else max(0, int(period * left) - draw.choice([0, 1, 1, 2]))
+            if weight:
+                left -= weight / period
+                terms.append((period, draw.choice([0, 0, draw.randint(0, period)]), weight))
+        if left < 0:
+            continue
+        for own in (1, 60, 999, 20000):
+            limit = draw.choice([100000, 1000000, 20000000])
+            found += ["least %d %s %d" % (own, written_terms(terms), limit), "hasten %d %s %d" % (own, written_terms(terms), limit), "least_beyond %d %s %d %d" % (own, written_terms(terms), limit, draw.choice([0, 500, 50000]))]
+    answers = ["-", "0", "1", "5", "7", "250000000"]
+    found += ["%s %s %s" % (it, a, b) for it in ("sooner", "later") for a in answers for b in answers]
+    for step in (1, 4, 16, 64):
+        found += ["window_at %d %d %d %d" % (round, ticks, step, at) for round in (0, 1, 7) for ticks in (1, 100, 16384) for at in (0, 1, 8, 99, 100, 513, 16383, 16384, 20000)]
+    return found
+
+
+def of_analysis():
+    found, draw = ["from_number %d" % n for n in (*range(8), 12, 255, 256, 2**32, 2**32 + 1, 2**64 - 1)], random.Random(4)
+    found += ["hit_none %d" % n for n in (0, 1, 5)]
+    hits = [(0, 0), (0, 3), (1, 0), (1, 2), (2, 1), (5, 5)]
+    found += ["larger %d %d %d %d" % (*a, *b) for a in hits for b in hits] + ["victim_with %d %d %d %d" % (*a, *b) for a in hits for b in hits]
+    found += ["no_victim_with %d %d %d" % (n, *a) for a in hits for n in (0, 1, 9)] + ["count_of_victim %d %d" % a for a in hits] + ["count_of_no_victim %d" % n for n in (0, 1, 9)]
+    for it, n in tables(5, 80) + [(THREE, 3), (THREE + "A\tc\ta\t5\t3\n", 3), (THREE + "A\tc\tb\t5\tf\nA\tb\ta\t2\t3\n", 3), (many_tasks(32), 32)]:
+        said, accesses = text(it), it.count("\nA")
+        rows = range(n) if n < 32 else (0, 1, 31)
+        found.append("responses %s" % said)
+        for i in rows:
+            found += ["respond %s %d %d" % (said, m, i) for m in METHODS] + ["explained %s %d %d" % (said, m, i) for m in METHODS]
+            found += ["evictors %s %d" % (said, i), "weigh_row %s %d" % (said, i), "term %s %d %d" % (said, i, draw.choice([0, 1, 3, 256]))]
+            found += ["charged %s %d %d" % (said, m, i) for m in (0, 1, 2, 4)]
+            may = [k for k, line in enumerate([x for x in it.split("\n") if x.startswith("A")]) if blocks(it, line, i)]
+            for k in [*may, accesses]:
+                found += ["%s %s %d %d %d" % (call, said, m, i, k) for m in range(5) for call in ("join", "terms")] + ["weigh_access %s %d %d" % (said, i, k)]
+                found += ["least_under %s %d %d %d %d" % (said, m, i, limit, k) for m in range(5) for limit in (10, 100, 10000)]
+    return found
+
+
+def blocks(table_text, line, i):
+    names = [x.split("\t")[1] for x in table_text.split("\n") if x.startswith("T")]
+    _, own, ceiling, *_ = line.split("\t")
+    return names.index(ceiling) <= i < names.index(own)
+
+
+def of_writing():
+    found = ["draft"]
+    for n in (0, 1, 9, 10, 11, 19, 99, 100, 101, 255, 256, 999999999, 1000000000, 123456789012345678, 2**64 - 1):
+        found += ["draft write %d" % n, "draft field %d" % n, "draft write 7 write %d" % n, "draft fields 7,%d" % n]
+        found += ["draft hex %d %d" % (n, d) for d in (0, 1, 2, 4, 15, 16)]
+    found += ["draft push 65", "draft push 65 push 66", "draft push 0", "draft push 255"]
+    for it in ("", "a", "ab", "abc"):
+        found += ["draft bytes %s" % text(it), "draft push 65 bytes %s" % text(it), "draft write_bytes %s" % text(it), "draft field_bytes %s" % text(it), "draft push 65 write_bytes %s push 66" % text(it), "draft bytes \"xy\" bytes %s" % text(it)]
+    found += ["draft %s %d" % (it, b) for it in ("write_bool", "field_bool") for b in (0, 1)] + ["draft fields_bool %s" % it for it in ("-", "0", "1", "1,0", "0,1,1")]
+    found += ["draft fields %s" % it for it in ("-", "0", "1,2", "1,2,3", "10,20,30", "5,4,3,2,1")]
+    for it in ("", "a", "ab", "abc\n"):
+        found += ["%s %s %d" % (call, text(it), size) for size in (0, 1, 2, 3, 4, 5, 9) for call in ("put", "deliver") if call == "deliver" or len(it) <= size]
+    found += ["draft error %d %d" % (k, line) for k in range(18) for line in (0, 1, 2, 9, 33, 16385)]
+    draw = random.Random(6)
+    sets = SETS + [[draw.getrandbits(64) for _ in range(4)] for _ in range(3)] + [[2**k, 0, 0, 0] for k in (3, 4, 7, 8, 63)] + [[0, 2**k, 0, 0] for k in (0, 3, 4, 63)] + [[0, 0, 2**k, 0] for k in (0, 4)] + [[0, 0, 0, 2**k] for k in (0, 59, 60, 63)]
+    for it in sets:
+        found += ["marks_fit %d %s" % (n, words(it)) for n in (0, 1, 4, 8, 60, 63, 64, 65, 68, 128, 132, 192, 196, 252, 256, 260, 2**64 - 1)]
+        found += ["draft marks %d %s" % (n, words(it)) for n in (0, 4, 8, 60, 64, 68, 128, 132, 192, 196, 252, 256)]
+    return found
+
+
+def of_report():
+    found = []
+    for it, n in tables(7, 60) + [(THREE, 3), (many_tasks(32), 32), (many_tasks(1), 1), (THREE + "A\tc\ta\t5\t3\n", 3)]:
+        found += ["report %s %d" % (text(it), size) for size in (0, 1, 2746)]
+        for i in range(n) if n < 32 else (0, 31):
+            found += ["explain %s %d %d %d" % (text(it), m, i, size) for m in METHODS for size in (2746, 10)]
+    found += ["report %s %d" % (text(THREE), size) for size in range(70, 90)] + ["explain %s 2 2 %d" % (text(THREE), size) for size in range(25, 50)]
+    draw = random.Random(8)
+    for n in (0, 1, 2, 3, 32):
+        for _ in range(8):
+            found.append("verdict_line %s" % words([draw.choice([0, 3, 5, 8]) if draw.random() < 0.6 else 5 for _ in range(6 * n)] if n else []))
+        for m in range(6 if n else 0):
+            row = [0 if k % 6 == m and k // 6 == n - 1 else 4 for k in range(6 * n)]
+            found += ["verdict_line %s" % words(row), "verdict_line %s" % words([0 if k % 6 == m and k // 6 == 0 else 4 for k in range(6 * n)]), "verdict_line %s" % words([4 if k % 6 == m else 0 for k in range(6 * n)])]
+    return [it for it in found if it != "verdict_line -"] + ["verdict_line -"]
+
+
+CHANGES = ["-", "sets=0", "sets=2", "sets=6", "sets=8", "sets=256", "sets=260", "sets=257", "brt=0", "brt=100000", "brt=100001", "count=0", "count=1", "count=2", "count=4", "count=33", "count=18446744073709551615", "access_count=1", "access_count=33", "access_count=18446744073709551615", "t0.name=65", "t0.name=0", "t0.name=97:0:98", "t0.name=98", "t1.name=99", "t2.name=97", "t0.name=97:97:97:97:97:97:97:97:97:97:97:97", "t0.work=0", "t0.work=250000000", "t0.work=250000001", "t2.work=0", "t0.period=0", "t0.period=19", "t0.period=250000001", "t0.deadline=0", "t0.deadline=21", "t0.jitter=20", "t0.jitter=21", "t1.jitter=250000001", "t0.blocking=250000000", "t0.blocking=250000001", "t1.blocking=5", "t0.ucb=16:0:0:0", "t0.ucb=15:0:0:0", "t0.ucb=0:1:0:0", "t0.ecb=16:0:0:0", "t0.ecb=0:0:1:0", "t1.ecb=0:0:0:1", "t3.name=97", "t3.work=1", "t3.period=1", "t3.deadline=1", "t3.jitter=1", "t3.blocking=1", "t3.ucb=1:0:0:0", "t3.ecb=1:0:0:0", "t3.ucb=0:0:0:1", "t31.work=1", "t31.ecb=1:0:0:0", "t31.name=0:0:0:0:0:0:0:0:0:0:0:1", "a0.task=1", "a0.ceiling=1", "a0.lasts=1", "a0.ucb=1:0:0:0", "a31.lasts=1", "a31.task=1", "a1.lasts=1", "a1.task=1", "a1.ceiling=1", "a1.ucb=1:0:0:0"]
+ONE = "access_count=1;a0.task=2;a0.ceiling=1;a0.lasts=5;a0.ucb=3:0:0:0"
+CHANGES += [ONE, *("%s;%s" % (ONE, it) for it in ("a0.task=3", "a0.task=1", "a0.task=0", "a0.ceiling=2", "a0.ceiling=3", "a0.ceiling=0", "a0.lasts=0", "a0.lasts=250000000", "a0.lasts=250000001", "a0.ucb=16:0:0:0", "a0.ucb=0:0:0:1", "t1.blocking=1", "t2.blocking=1", "a1.lasts=1", "a1.task=1", "a1.ucb=1:0:0:0", "count=2", "access_count=2"))]
+
+
+def of_table_text():
+    found = []
+    for it, _ in tables(9, 40) + [(THREE, 3), (many_tasks(32), 32), (many_accesses(32), 2), (THREE + "A\tc\ta\t5\t3\nA\tb\tb\t7\tc\n", 3)]:
+        found += ["write %s %d" % (text(it), size) for size in (0, len(it) - 1, len(it), len(it) + 3)] + ["is_readable %s -" % text(it)]
+    return found + ["is_readable %s %s" % (text(THREE), it) for it in CHANGES]
+
+
+def of_growth():
+    found = ["scaled_work %d %d" % (work, k) for work in (1, 2, 3, 7, 999, 1000, 250000000) for k in (0, 1, 499, 500, 501, 999, 1000, 1001, 1500, 4000)]
+    big = [head(4, 0) + "T\ta\t%d\t250000000\t250000000\t0\t0\t0\tf\n" % work for work in (1, 1000, 62499999, 62500000, 62500001, 125000000, 249999999, 250000000)] + [head(4, 0) + "T\ta\t1\t250000000\t250000000\t0\t0\t0\tf\nT\tb\t%d\t250000000\t250000000\t0\t0\t0\tf\n" % work for work in (62500001, 200000000)]
+    for it, n in tables(10, 90) + [(THREE, 3), (THREE + "A\tc\ta\t5\t3\n", 3)] + [(it, it.count("T")) for it in big] + [(head(4, 1) + "T\ta\t20\t20\t20\t0\t0\t0\tf\n", 1), (head(4, 1) + "T\ta\t10\t20\t20\t0\t0\t0\tf\n", 1), (head(4, 1) + "T\ta\t30\t20\t20\t0\t0\t0\tf\n", 1), (head(4, 1) + "T\ta\t1\t20\t20\t0\t30\t0\tf\n", 1), (head(4, 1) + "T\ta\t1\t20\t20\t0\t19\t0\tf\n", 1), (head(4, 1) + "T\ta\t1\t20\t20\t0\t20\t0\tf\n", 1)]:
+        found += ["growth %s %d" % (text(it), m) for m in METHODS]
+        found += ["scale %s %d" % (text(it), k) for k in (0, 1, 999, 1000, 1001)]
+    return found
+
+
+def operations(seed, count):
+    """Texts for whole operations."""
+    return [THREE, THREE + "A\tc\ta\t5\t3\n", *(it for it, _ in tables(seed, count)), *texts()[::23], "", "a", "K\t4\t1\n", "K\t4\t1\nU\n", THREE + "U\n"]
+
+
+def of_crpd(prefix="", seed=11):
+    found = []
+    for it in operations(seed, 40):
+        said = text(it)
+        for m in (0, 1, 2, 3, 4, 5, 6, 7, 11, 256, 2**32, 2**64 - 1):
+            found += ["%sanswer %s %d %d" % (prefix, said, m, i) for i in (0, 1, 2, 3, 32, 2**32, 2**64 - 1)] if len(it) < 200 else []
+            found += ["%sgrowth %s %d" % (prefix, said, m)]
+            found += ["%sscaled %s %d %d" % (prefix, said, m, size) for size in (0, 40, 9293)] if len(it) < 200 else []
+            found += ["%sexplain %s %d %d %d" % (prefix, said, m, i, size) for i in (0, 2, 3, 2**64 - 1) for size in (0, 10, 2746)] if len(it) < 200 else []
+        found += ["%s%s %s %d" % (prefix, call, said, size) for call in ("report", "rewrite") for size in (0, 1, 30, 9293)]
+        found += ["crpd_print %s %d" % (said, size) for size in (0, 3, 6, 2746)] if prefix else ["print %s" % said]
+        found += ["%srewrite %s %d" % (prefix, said, size) for size in (len(it) - 1, len(it), len(it) + 1) if size >= 0]
+    for it in long_texts()[:6]:
+        found += ["%sreport %s 100" % (prefix, it), "%sanswer %s 6 0" % (prefix, it), "%sanswer %s 0 0" % (prefix, it)] + (["print %s" % it] if not prefix else ["crpd_print %s 100" % it])
+    if not prefix:
+        for change in CHANGES:
+            found += ["write %s %s %d" % (text(THREE), change, size) for size in (0, 9293)]
+        found += ["code_number %d" % n for n in (0, 1, 5, 2**32, 2**64 - 1)] + ["code_length %d" % n for n in (0, 1, 5, 2**32)] + ["code_within %d" % n for n in (0, 1, 5, 250000000)] + ["code_none"] + ["code_refusal %d %d" % (k, line) for k in range(4) for line in (0, 1, 33, 16385)]
+    return found
+
+
+def of_laws():
+    found, draw = [], random.Random(12)
+    sets = SETS + [[draw.getrandbits(64) for _ in range(4)] for _ in range(3)]
+    for a in sets:
+        found.append("with_itself %s" % words(a))
+        for b in sets:
+            found.append("either_way_round %s %s" % (words(a), words(b)))
+            for c in sets[::2]:
+                found += ["%s %s %s %s" % (it, words(a), words(b), words(c)) for it in ("either_grouping", "shared_sizes")]
+    every = tables(13, 60) + [(THREE, 3), (THREE + "A\tc\ta\t5\t3\n", 3)]
+    for k, (it, n) in enumerate(every):
+        said = text(it)
+        for i in range(n):
+            for m in METHODS:
+                found += ["%s %s %d %d" % (call, said, m, i) for call in ("total", "need_and_response", "figure_response", "in_any_order")]
+                other, n2 = every[(k + 1) % len(every)]
+                found.append("in_two_tables %s %d %s %d %d" % (said, i, text(other), min(i, n2 - 1), m))
+                found.append("in_two_tables %s %d %s %d %d" % (said, i, said, (i + 1) % n, m))
+            found += ["counted %s %d %d" % (said, m, i) for m in range(5)] + ["combined %s %d" % (said, i)]
+            found += ["figure_charge %s %d %d %d" % (said, m, i, j) for m in (0, 1, 2, 4) for j in range(i)]
+        found += ["left %s %d" % (said, m) for m in METHODS] + ["growth_left %s %d" % (said, m) for m in (*METHODS, 6)]
+        found += ["reported_twice %s %d %d" % (said, a, b) for a, b in ((2746, 2746), (0, 2746), (2746, 0), (2000, 2746))]
+        found += ["answered_twice %s %d %d" % (said, m, p) for m in (0, 5, 6) for p in (0, 1, 2, 40)]
+        found += ["read_then_written %s" % said]
+        other = text(every[(k + 1) % len(every)][0])
+        found += ["of_two_texts %s %s %d %d" % (said, other, m, p) for m in (0, 2, 3, 4, 5, 6) for p in (0, 1, 2, 40)]
+    for it in texts()[::17] + ["", "a"]:
+        found += ["read_then_written %s" % text(it), "answered_twice %s 0 0" % text(it), "reported_twice %s 2746 2746" % text(it), "growth_left %s 0" % text(it), "of_two_texts %s %s 0 0" % (text(it), text(THREE))]
+    found += ["written_then_read %s %s" % (text(THREE), it) for it in CHANGES]
+    for _ in range(60):
+        terms = draw_terms(draw, draw.randint(0, 4))
+        order = list(range(len(terms)))
+        draw.shuffle(order)
+        said = written_terms(terms)
+        for own in (1, 5, 40):
+            found += ["demand_in_order %d %s %s %d" % (own, said, words(order), r) for r in (0, 1, 7, 40)] + ["smallest %d %s %d" % (own, said, limit) for limit in (1, own, 60, 5000)]
+    return found
+
+
+def of_crpd_c():
+    return of_crpd("crpd_", 14)
+
+
+def of_parts():
+    found = []
+    for it in operations(15, 30):
+        said = text(it)
+        found += ["bench_read %s" % said] + ["bench_answers %s %d" % (said, n) for n in (0, 1, 2, 3)]
+        found += ["%s %s %d %d" % (call, said, n, size) for call in ("bench_write", "bench_rewrite") for n in (0, 1, 2) for size in (0, 20, 9293)]
+    return found
+
+
+def of_values():
+    found, draw = ["test_write %d - %d" % (n, size) for n in (0, 1, 1027, 1028, 1029) for size in (0, 100)], random.Random(16)
+    sets = 4
+    task = lambda k, name, numbers: {3 + 25 * k: name, **{3 + 25 * k + 12 + n: value for n, value in enumerate(numbers)}}
+    good = {0: 256, 1: 1, 2: 2, **task(0, 97, [1, 20, 20, 0, 0, 1, 2, 3, 4, 5, 6, 7, 8]), **task(1, 98, [2, 40, 30, 1, 0, 9, 10, 11, 12, 13, 14, 15, 16])}
+    with_access = {**good, 803: 1, 804: 1, 805: 0, 806: 5, 807: 1, 808: 2, 809: 3, 810: 4}
+    every = [good, with_access] + [{**it, place: value} for it in (good, with_access) for place in (*range(0, 60), *range(800, 820), 1027) for value in (0, 1, 3, 99, 256 + 99, 2**32, 2**64 - 1)]
+    for it in every:
+        found += ["test_write %d %s %d" % (size, ";".join("%d=%d" % pair for pair in sorted(it.items())), 1000) for size in (1028, 1029)]
+    return found
+
+
+def of_crpd_report():
+    found = []
+    for it in [text(THREE), text(THREE[:-1]), '""', '"a"', '"K\\t4\\t1\\n"'] + long_texts()[:9] + [text(many_tasks(32))]:
+        for steps in ("-", "2", "0", "1", "2,2,2", "0,0,3", "3,0,4", "3,1", "0,1", "9,9,1", "100,0,100", "2,1"):
+            found += ["run %s %s %d" % (it, steps, room) for room in (0, 10, 2746, 9000)]
+            found += ["%s %s %s %d" % (call, it, steps, size) for call in ("read_some", "read_input") for size in (0, 1, 5, 16385)]
+    return found
+
+
+def of(crate):
+    return sorted(set(globals()["of_" + crate]()))

@@ -1,0 +1,60 @@
+// What the public functions of `crpd` answer.
+use crate::codes::code;
+use crate::{answer, explain, growth, print, report, rewrite, scaled, write};
+use cache::units::Ticks;
+use search::demand::Response;
+use table::refusals::{Reason, Refusal};
+use ::{cache, table};
+
+#[path = "common.rs"]
+mod common;
+#[path = "tables.rs"]
+mod tables;
+use common::{filled, show, unknown, Args};
+
+fn refusal(args: &mut Args) -> Refusal {
+    Refusal { reason: [Reason::TooLong, Reason::Shape, Reason::Order, Reason::NoText][args.size()], line: args.number() }
+}
+
+fn told(name: &str, args: &mut Args) -> String {
+    match name {
+        "answer" => show(answer(&args.bytes(), args.number(), args.number())),
+        "report" => {
+            let (text, mut out) = (args.bytes(), args.buffer());
+            filled(report(&text, &mut out), &out)
+        }
+        "explain" => {
+            let (text, method, position, mut out) = (args.bytes(), args.number(), args.number(), args.buffer());
+            filled(explain(&text, method, position, &mut out), &out)
+        }
+        "write" => {
+            let (table, mut out) = (tables::changed(args), args.buffer());
+            filled(write(&table, &mut out), &out)
+        }
+        "rewrite" => {
+            let (text, mut out) = (args.bytes(), args.buffer());
+            filled(rewrite(&text, &mut out), &out)
+        }
+        "growth" => show(growth(&args.bytes(), args.number())),
+        "scaled" => {
+            let (text, method, mut out) = (args.bytes(), args.number(), args.buffer());
+            filled(scaled(&text, method, &mut out), &out)
+        }
+        "print" => {
+            let mut out = [b'~'; 2746];
+            let len = print(&args.bytes(), &mut out);
+            let end = out.iter().rposition(|b| *b != b'~').map_or(0, |k| k + 1);
+            filled(len, &out[..end])
+        }
+        "code_number" => show(code(Ok::<u64, Refusal>(args.number()))),
+        "code_length" => show(code(Ok::<usize, Refusal>(args.size()))),
+        "code_within" => show(code(Ok::<Response, Refusal>(Response::Within(Ticks(args.number()))))),
+        "code_none" => show(code(Ok::<Response, Refusal>(Response::Unschedulable))),
+        "code_refusal" => show(code(Err::<u64, Refusal>(refusal(args)))),
+        _ => unknown(name),
+    }
+}
+
+pub fn main() {
+    common::run(told);
+}

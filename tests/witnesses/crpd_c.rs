@@ -1,0 +1,38 @@
+// What the exported functions answer.
+use crate::{crpd_answer, crpd_explain, crpd_growth, crpd_print, crpd_report, crpd_rewrite, crpd_scaled};
+
+#[path = "common.rs"]
+mod common;
+use common::{filled, show, unknown, Args};
+
+fn answer(name: &str, args: &mut Args) -> String {
+    match name {
+        "crpd_answer" => show(crpd_answer(&args.bytes(), args.number(), args.number())),
+        "crpd_report" => {
+            let (text, mut out) = (args.bytes(), args.buffer());
+            filled(crpd_report(&text, &mut out), &out)
+        }
+        "crpd_explain" => {
+            let (text, method, position, mut out) = (args.bytes(), args.number(), args.number(), args.buffer());
+            filled(crpd_explain(&text, method, position, &mut out), &out)
+        }
+        "crpd_rewrite" => {
+            let (text, mut out) = (args.bytes(), args.buffer());
+            filled(crpd_rewrite(&text, &mut out), &out)
+        }
+        "crpd_growth" => show(crpd_growth(&args.bytes(), args.number())),
+        "crpd_scaled" => {
+            let (text, method, mut out) = (args.bytes(), args.number(), args.buffer());
+            filled(crpd_scaled(&text, method, &mut out), &out)
+        }
+        "crpd_print" => {
+            let (text, mut out) = (args.bytes(), args.buffer());
+            filled(crpd_print(&text, &mut out), &out)
+        }
+        _ => unknown(name),
+    }
+}
+
+pub fn main() {
+    common::run(answer);
+}

@@ -1,0 +1,116 @@
+// What the functions of `laws` answer, as far as their promises leave one answer.
+use crate::{any_order, any_worker, explanations, figures, growths, orders, responses, solutions, texts};
+use analysis::costs::Single;
+use analysis::Method;
+use cache::sets::CacheSet;
+use search::demand::Term;
+use table::Table;
+use ::{cache, table};
+
+#[path = "common.rs"]
+mod common;
+#[path = "tables.rs"]
+mod tables;
+use cache::units::Ticks;
+use common::{filled, number, show, unknown, Args};
+
+fn set(args: &mut Args) -> CacheSet {
+    CacheSet::at(&args.list(), 0)
+}
+
+fn single(args: &mut Args) -> Single {
+    [Single::None, Single::EcbOnly, Single::UcbOnly, Single::UcbUnion, Single::EcbUnion][args.size()]
+}
+
+fn method(args: &mut Args) -> Method {
+    match args.number() {
+        5 => Method::Combined,
+        n => Method::Of([Single::None, Single::EcbOnly, Single::UcbOnly, Single::UcbUnion, Single::EcbUnion][n as usize]),
+    }
+}
+
+fn terms(args: &mut Args) -> Vec<Term> {
+    let word = args.word();
+    let term_of = |word: &str| {
+        let numbers: Vec<u64> = word.split('/').map(number).collect();
+        Term { period: Ticks(numbers[0]), jitter: Ticks(numbers[1]), weight: Ticks(numbers[2]) }
+    };
+    if word == "-" { vec![] } else { word.split(',').map(term_of).collect() }
+}
+
+fn answer(name: &str, args: &mut Args) -> String {
+    match name {
+        "either_way_round" => show(any_order::either_way_round(set(args), set(args))),
+        "either_grouping" => show(any_order::either_grouping(set(args), set(args), set(args))),
+        "with_itself" => show(any_order::with_itself(set(args))),
+        "shared_sizes" => show(any_order::shared_sizes(set(args), set(args), set(args))),
+        "answered_twice" => show(any_worker::answered_twice(&args.bytes(), args.number(), args.number())),
+        "reported_twice" => {
+            let (text, mut own, mut others) = (args.bytes(), args.buffer(), args.buffer());
+            let reports = any_worker::reported_twice(&text, &mut own, &mut others);
+            format!("{} {}", filled(reports, &own), common::text(&others))
+        }
+        "total" => {
+            let table = tables::read(args);
+            show(explanations::total(&table, method(args), args.size()))
+        }
+        "need_and_response" => {
+            let table = tables::read(args);
+            show(explanations::need_and_response(&table, method(args), args.size()))
+        }
+        "figure_response" => {
+            let table = tables::read(args);
+            show(figures::response(&table, method(args), args.size()))
+        }
+        "figure_charge" => {
+            let table = tables::read(args);
+            show(figures::charge(&table, single(args), args.size(), args.size()))
+        }
+        "left" => {
+            let table = tables::read(args);
+            show(growths::left(&table, method(args)))
+        }
+        "in_two_tables" => {
+            let (first, i, second, k) = (tables::read(args), args.size(), tables::read(args), args.size());
+            show(orders::in_two_tables(&first, i, &second, k, method(args)))
+        }
+        "in_any_order" => {
+            let table = tables::read(args);
+            show(orders::in_any_order(&table, method(args), args.size()))
+        }
+        "demand_in_order" => {
+            let (own, terms) = (Ticks(args.number()), terms(args));
+            let order: Vec<usize> = args.list().iter().map(|k| *k as usize).collect();
+            show(orders::demand_in_order(own, &terms, &order, args.number()))
+        }
+        "counted" => {
+            let table = tables::read(args);
+            show(responses::counted(&table, single(args), args.size()))
+        }
+        "combined" => {
+            let table = tables::read(args);
+            show(responses::combined(&table, args.size()))
+        }
+        "smallest" => show(solutions::smallest(Ticks(args.number()), &terms(args), Ticks(args.number()))),
+        "of_two_texts" => show(texts::of_two_texts(&args.bytes(), &args.bytes(), args.number(), args.number())),
+        "growth_left" => show(texts::growth_left(&args.bytes(), args.number())),
+        "read_then_written" => {
+            let mut out = [b'~'; 9293];
+            let read = texts::read_then_written(&args.bytes(), &mut out);
+            let end = out.iter().rposition(|b| *b != b'~').map_or(0, |k| k + 1);
+            filled(read, &out[..end])
+        }
+        "written_then_read" => {
+            let table = tables::changed(args);
+            let mut again = Table::empty();
+            let read = texts::written_then_read(&table, &mut again);
+            // where it is refused nothing is said of the table
+            if read.is_ok() { format!("{:?} {}", read, tables::shown(&again)) } else { show(read) }
+        }
+        _ => unknown(name),
+    }
+}
+
+pub fn main() {
+    common::run(answer);
+}

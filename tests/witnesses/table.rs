@@ -1,0 +1,89 @@
+// What the public functions of `table` answer.
+use crate as table;
+use ::cache;
+use crate::accesses::{plain_access, Access};
+use crate::fields::{is_name, is_within, read_number, same_bytes};
+use crate::refusals::{Reason, Refusal};
+use crate::tasks::{is_known, position_of, Head, Name, Task};
+use crate::text::{first_field, next_line, Fields, Lines};
+use crate::Table;
+use cache::sets::CacheSet;
+use cache::units::Ticks;
+
+#[path = "common.rs"]
+mod common;
+#[path = "tables.rs"]
+mod tables;
+use common::{show, text, unknown, Args};
+
+pub const REASONS: [Reason; 18] = [
+    Reason::TooLong, Reason::NotEnded, Reason::Shape, Reason::Name, Reason::Number, Reason::Range, Reason::Marks, Reason::Order, Reason::KnownName,
+    Reason::TooManyTasks, Reason::NoTask, Reason::Method, Reason::Position, Reason::ShortBuffer, Reason::OtherTask, Reason::TooManyAccesses,
+    Reason::Blocking, Reason::NoText,
+];
+
+// A name of any twelve bytes.
+fn name_of(args: &mut Args) -> Name {
+    let mut name = Name { bytes: [0; 12] };
+    for (k, b) in args.bytes().into_iter().enumerate() {
+        name.bytes[k] = b;
+    }
+    name
+}
+
+fn answer(name: &str, args: &mut Args) -> String {
+    match name {
+        "empty" => tables::shown(&Table::empty()),
+        "read" => {
+            let mut table = Table::empty();
+            let read = table.read(&args.bytes());
+            format!("{:?} {}", read, tables::shown(&table))
+        }
+        "tasks" => show(tables::changed(args).tasks()),
+        "task" => show(tables::changed(args).task(args.size())),
+        "accesses" => show(tables::changed(args).accesses()),
+        "check_end" => show(tables::changed(args).check_end()),
+        "next_line" => {
+            let whole = args.bytes();
+            let (line, below) = next_line(&whole);
+            format!("{} | {}", text(line), text(below))
+        }
+        "lines" => show(Lines::of(&args.bytes()).map(text).collect::<Vec<_>>()),
+        "first_field" => text(first_field(&args.bytes())),
+        "fields" => show(Fields::of(&args.bytes()).map(text).collect::<Vec<_>>()),
+        "is_done" => {
+            let line = args.bytes();
+            let mut fields = Fields::of(&line);
+            for _ in 0..args.number() {
+                fields.next();
+            }
+            show(fields.is_done())
+        }
+        "read_number" => show(read_number(&args.bytes())),
+        "is_name" => show(is_name(&args.bytes())),
+        "is_within" => show(is_within(args.number(), args.number(), args.number())),
+        "same_bytes" => show(same_bytes(&args.bytes(), &args.bytes())),
+        "number" => show(REASONS[args.size()].number()),
+        "untold" => show(Refusal::untold(REASONS[args.size()])),
+        "name_of" => show(Name::of(&args.bytes())),
+        "name_text" => text(name_of(args).text()),
+        "is_filled" => show(name_of(args).is_filled()),
+        "position_of" => show(position_of(name_of(args), tables::changed(args).tasks())),
+        "is_known" => show(is_known(name_of(args), tables::changed(args).tasks())),
+        "may_block" => {
+            let access = Access { task: args.size(), ceiling: args.size(), lasts: Ticks(1), ucb: CacheSet::EMPTY };
+            show(access.may_block(args.size()))
+        }
+        "plain_access" => show(plain_access(*tables::changed(args).task(args.size()))),
+        "head" => show(Head::read(&args.bytes())),
+        "head_in_range" => show(Head { sets: args.number(), brt: Ticks(args.number()) }.in_range()),
+        "task_line" => show(Task::read(&args.bytes(), args.number(), tables::changed(args).tasks())),
+        "is_timely" => show(tables::changed(args).task(args.size()).is_timely()),
+        "access_line" => show(Access::read(&args.bytes(), args.number(), tables::changed(args).tasks())),
+        _ => unknown(name),
+    }
+}
+
+pub fn main() {
+    common::run(answer);
+}

@@ -1,0 +1,25 @@
+// What the public functions of `table_text` answer.
+use crate::readable::is_readable;
+use crate::write;
+use ::{cache, table};
+
+#[path = "common.rs"]
+mod common;
+#[path = "tables.rs"]
+mod tables;
+use common::{filled, show, unknown, Args};
+
+fn answer(name: &str, args: &mut Args) -> String {
+    match name {
+        "write" => {
+            let (table, mut out) = (tables::read(args), args.buffer());
+            filled(write(&table, &mut out), &out)
+        }
+        "is_readable" => show(is_readable(&tables::changed(args))),
+        _ => unknown(name),
+    }
+}
+
+pub fn main() {
+    common::run(answer);
+}

@@ -1,0 +1,60 @@
+// What the public functions of `writing` answer.
+use crate::delivery::{deliver, put, write_error};
+use crate::marks::{marks_fit, write_marks};
+use crate::writer::Draft;
+use cache::sets::CacheSet;
+use table::refusals::{Reason, Refusal};
+
+#[path = "common.rs"]
+mod common;
+use common::{filled, show, text, unknown, Args};
+
+const REASONS: [Reason; 18] = [
+    Reason::TooLong, Reason::NotEnded, Reason::Shape, Reason::Name, Reason::Number, Reason::Range, Reason::Marks, Reason::Order, Reason::KnownName,
+    Reason::TooManyTasks, Reason::NoTask, Reason::Method, Reason::Position, Reason::ShortBuffer, Reason::OtherTask, Reason::TooManyAccesses,
+    Reason::Blocking, Reason::NoText,
+];
+
+// A draft with what each of these words appends to it.
+fn drafted(args: &mut Args) -> Draft {
+    let mut draft = Draft::new();
+    while !args.is_done() {
+        match args.word() {
+            "push" => draft.push(args.number() as u8),
+            "bytes" => draft.bytes(&args.bytes()),
+            "hex" => draft.hex(args.number(), args.size()),
+            "write" => draft.write(&args.number()),
+            "write_bool" => draft.write(&(args.number() == 1)),
+            "write_bytes" => draft.write(&args.bytes().as_slice()),
+            "field" => draft.field(&args.number()),
+            "field_bool" => draft.field(&(args.number() == 1)),
+            "field_bytes" => draft.field(&args.bytes().as_slice()),
+            "fields" => draft.fields(&args.list()),
+            "fields_bool" => draft.fields(&args.list().iter().map(|n| *n == 1).collect::<Vec<_>>()),
+            "marks" => write_marks(&mut draft, args.number(), CacheSet::at(&args.list(), 0)),
+            "error" => write_error(&mut draft, Refusal { reason: REASONS[args.size()], line: args.number() }),
+            other => panic!("nothing appends {}", other),
+        }
+    }
+    draft
+}
+
+fn answer(name: &str, args: &mut Args) -> String {
+    match name {
+        "draft" => text(drafted(args).text()),
+        "put" => {
+            let (text, mut out) = (args.bytes(), args.buffer());
+            filled(put(&text, &mut out), &out)
+        }
+        "deliver" => {
+            let (text, mut out) = (args.bytes(), args.buffer());
+            filled(deliver(&text, &mut out), &out)
+        }
+        "marks_fit" => show(marks_fit(args.number(), CacheSet::at(&args.list(), 0))),
+        _ => unknown(name),
+    }
+}
+
+pub fn main() {
+    common::run(answer);
+}
