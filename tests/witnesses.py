@@ -1,10 +1,12 @@
 #!/usr/bin/env python3
 """witnesses.py [CRATE[/LABEL]..]: shows of each must-fail edit that it is a wrong program. tests/witnesses/CRATE.txt has a line for each edit, LABEL: CASE, a call of a public
-function of the crate whose promise leaves one answer; the crate is built as plain Rust with and without the edit, and both are called so. An edit with no such line, or whose
-answer is the same, fails. The last line is `N passed, M failed`.
+function of the crate whose promise leaves one answer; the crate is built as plain Rust with and without the edit, and both are called so. It fails for an edit of no code, one
+with no such line, and one whose answer is the same; and where the edit answers nothing, since an index, a sum or a difference leaves its range first, unless
+tests/witnesses/bounds.txt says of it why that is the error. Last it tries the edits of tests/same_meaning, on every case that there is: they mean the same as the code, so none
+may have a witness. The last line is `N passed, M failed`.
 
-`witnesses.py --show CRATE/LABEL..` prints both answers; `witnesses.py --find CRATE[/LABEL]..` looks for a witness of the edits that have none, or whose is one no more, among
-the cases of tests/witnesses/cases.py, and writes the file; `witnesses.py --call CRATE < CASES` prints what the crate as it stands answers."""
+`witnesses.py --show CRATE/LABEL..` prints both answers; `witnesses.py --find CRATE[/LABEL]..` looks for witnesses among the cases of tests/witnesses/cases.py, keeps what is one
+still, and writes the files; `witnesses.py --call CRATE < CASES` prints what the crate as it stands answers."""
 import concurrent.futures
 import glob
 import os
@@ -26,8 +28,8 @@ OPTIONS = ["-C", "opt-level=0", "-C", "debuginfo=0"]
 class Edit:
     """A must-fail edit: `texts` are those of the files that it changes, by their path in the crate."""
 
-    def __init__(self, path):
-        self.crate, self.label = path.split(os.sep)[-3], os.path.basename(path)[: -len(".edit")]
+    def __init__(self, crate, path):
+        self.crate, self.label = crate, os.path.basename(path)[: -len(".edit")]
         self.name = "%s/%s" % (self.crate, self.label)
         self.was, self.texts, self.places, self.bad = {}, {}, [], None
         with open(path, encoding="utf-8") as lines:
@@ -60,17 +62,21 @@ def edits(names=()):
     for path in sorted(glob.glob(ROOT + "/crates/*/must-fail/*.edit")):
         crate, label = path.split(os.sep)[-3], os.path.basename(path)[: -len(".edit")]
         if not names or crate in names or "%s/%s" % (crate, label) in names:
-            found.append(Edit(path))
+            found.append(Edit(crate, path))
     return found
+
+
+def listed(path):
+    """The lines `NAME: WORDS` of a file, by their names."""
+    if not os.path.exists(path):
+        return {}
+    with open(path, encoding="utf-8") as lines:
+        return {label: said for label, _, said in (line.rstrip("\n").partition(": ") for line in lines if not line.startswith("#"))}
 
 
 def witnesses(crate):
     """Of each label the case that is its witness."""
-    path = "%s/%s.txt" % (HERE, crate)
-    if not os.path.exists(path):
-        return {}
-    with open(path, encoding="utf-8") as lines:
-        return {label: case for label, _, case in (line.rstrip("\n").partition(": ") for line in lines if not line.startswith("#"))}
+    return listed("%s/%s.txt" % (HERE, crate))
 
 
 def write_witnesses(crate, cases):
@@ -136,51 +142,60 @@ def is_fault(said):
     return said.startswith("FAULT")
 
 
+def why_nothing(edit, case, right, programs, bounds):
+    """Why an edit shows nothing, or None. `right` is what the crate as it stands answers to the case."""
+    if edit.bad:
+        return edit.bad
+    if not edit.is_of_code():
+        return "the program is the same with it: it changes a definition, a contract or a proof alone"
+    if case is None:
+        return "it has no witness in tests/witnesses/%s.txt" % edit.crate
+    if is_fault(right):
+        return "its witness cannot be called: %s" % right
+    wrong = call(programs.build(edit.crate, edit.name, edit.texts), [case])[0]
+    if wrong == right:
+        return "its witness is answered as before: %s" % case
+    if is_fault(wrong) and edit.name not in bounds:
+        return "it answers nothing on its witness (%s): %s" % (wrong, case)
+    if not is_fault(wrong) and edit.name in bounds:
+        return "it stands in tests/witnesses/bounds.txt, and answers its witness"
+    return None
+
+
+def why_not_same(edit, programs, every):
+    """Why the check would take an edit that means the same as the code, or None."""
+    if edit.bad:
+        return edit.bad
+    if not edit.is_of_code():
+        return "it changes no code"
+    plain, edited = (call(programs.build(edit.crate, name, texts), every) for name, texts in ((edit.name + "/plain", None), (edit.name, edit.texts)))
+    found = next((case for case, one, other in zip(every, plain, edited) if one != other), None)
+    return found and "it means something else: %s" % found
+
+
 def check(names):
+    import cases as made
+
     chosen = edits(names)
-    crates = sorted({it.crate for it in chosen})
+    cases, bounds = {it.crate: witnesses(it.crate) for it in chosen}, listed(HERE + "/bounds.txt")
+    same = [] if names else [Edit(path.split(os.sep)[-2], path) for path in sorted(glob.glob(ROOT + "/tests/same_meaning/*/*.edit"))]
     with tempfile.TemporaryDirectory() as room:
         programs = Programs(room)
-        programs.libraries(crates)
-        cases = {crate: witnesses(crate) for crate in crates}
-        right = {}
+        programs.libraries(sorted({it.crate for it in chosen + same}))
 
         def as_it_stands(crate):
-            labels = sorted(cases[crate])
-            answers = call(programs.build(crate, crate + "/as_it_stands"), [cases[crate][it] for it in labels])
-            right.update({(crate, label): said for label, said in zip(labels, answers)})
+            return dict(zip(cases[crate], call(programs.build(crate, crate + "/as_it_stands"), list(cases[crate].values()))))
 
-        in_turn(as_it_stands, [it for it in crates if cases[it]])
-
-        def why_not(edit):
-            """Why this edit shows nothing, or None."""
-            if edit.bad:
-                return edit.bad
-            if not edit.is_of_code():
-                return "the program is the same with it: it changes a definition, a contract or a proof alone"
-            case = cases[edit.crate].get(edit.label)
-            if case is None:
-                return "it has no witness in tests/witnesses/%s.txt" % edit.crate
-            is_right = right[edit.crate, edit.label]
-            if is_fault(is_right):
-                return "its witness cannot be called: %s" % is_right
-            wrong = call(programs.build(edit.crate, edit.name, edit.texts), [case])[0]
-            if wrong == is_right:
-                return "its witness is answered as before: %s" % case
-            return None
-
-        reasons = in_turn(why_not, chosen)
-    failed = 0
-    for edit, why in zip(chosen, reasons):
-        if why:
-            failed += 1
-            print("%s: %s" % (edit.name, why))
-    for crate in [] if names else sorted({os.path.basename(it)[: -len(".txt")] for it in glob.glob(HERE + "/*.txt")}):
-        for label in sorted(set(witnesses(crate)) - {it.label for it in chosen if it.crate == crate}):
-            failed += 1
-            print("%s/%s: a witness of no edit" % (crate, label))
-    print("%d passed, %d failed" % (len(chosen) - sum(map(bool, reasons)), failed))
-    return failed > 0
+        right = dict(zip(cases, in_turn(as_it_stands, cases)))
+        reasons = in_turn(lambda edit: why_nothing(edit, cases[edit.crate].get(edit.label), right[edit.crate].get(edit.label), programs, bounds), chosen)
+        reasons += in_turn(lambda edit: why_not_same(edit, programs, sorted(set(made.of(edit.crate)) | set(cases[edit.crate].values()), key=len)[:3000]), same)
+    told = ["%s: %s" % (edit.name, why) for edit, why in zip(chosen + same, reasons) if why]
+    if not names:
+        there = {it.name for it in chosen}
+        told += ["%s/%s: a witness of no edit" % (crate, label) for crate in cases for label in cases[crate] if "%s/%s" % (crate, label) not in there]
+        told += ["%s: a line of bounds.txt for no edit" % name for name in bounds if name not in there]
+    print("\n".join(told + ["%d passed, %d failed" % (len(reasons) - sum(map(bool, reasons)), len(told))]))
+    return bool(told)
 
 
 def show(names):

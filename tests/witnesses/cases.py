@@ -90,7 +90,7 @@ def lines():
                     found.append("\t".join([*good[:k], value, *good[k + 1 : j], other, *good[j + 1 :]]))
     for k in range(10):
         found += ["\t".join(good[:k]), "\t".join(good[:k]) + "\t", "\t".join([*good[:k], "0", *good[k:]])]
-    found += ["\t".join([*good, "0"]), "\t".join([*good, ""]), "\t".join([*good, "0", "0"]), "\t".join(good) + "\r", "", "T\ta\t1\t9\t9\t8\t7\t3\tc", "T\ta\t1\t40\t30\t20\t10\t3\tc"]
+    found += ["\t".join([*good, "0"]), "\t".join([*good, ""]), "\t".join([*good, "0", "0"]), "\t".join(good) + "\r", "", "T\ta\t1\t9\t9\t8\t7\t3\tc", "T\ta\t1\t40\t10\t20\t0\t3\tc", "T\ta\t1\t40\t10\t40\t0\t3\tc", "T\ta\t1\t40\t30\t20\t10\t3\tc"]
     return sorted(set(found))
 
 
@@ -133,7 +133,7 @@ def texts():
         found += [head(4, 1) + plain % blocking, head(4, 1) + plain % blocking + "A\tc\ta\t5\t3\n", head(4, 1) + plain % blocking + "A\ta\td\t5\t3\n"]
     found += [head(4, 1) + "A\tc\ta\t5\t3\n", head(4, 1) + "A\tc\ta\t5\t3\nT\ta\t1\t20\t20\t0\t0\t0\tf\n"]
     for n in (31, 32, 33, 34):
-        found += [many_tasks(n), many_tasks(n, "T\tA\n"), many_tasks(n, "U\n"), many_tasks(n, "A\tb\ta\t1\t3\n"), many_tasks(n, "A\tb\ta\t1\t3\nT\tzz\t1\t20\t20\t0\t0\t0\tf\n"), many_tasks(n, "T\ta\t1\t20\t20\t0\t0\t0\tf\n")]
+        found += [many_tasks(n), many_tasks(n, "T\tA\n"), many_tasks(n, "U\n"), many_tasks(n, "UU\n"), many_tasks(n, "TT\n"), many_tasks(n, "\n"), many_tasks(n, "A\tb\ta\t1\t3\n"), many_tasks(n, "A\tb\ta\t1\t3\nT\tzz\t1\t20\t20\t0\t0\t0\tf\n"), many_tasks(n, "T\ta\t1\t20\t20\t0\t0\t0\tf\n")]
         found += [many_accesses(n), many_accesses(n, "A\n"), many_accesses(n, "U\n"), many_accesses(n, "T\tc\t1\t20\t20\t0\t0\t0\tf\n")]
     found += [head(256, 1) + "T\ta\t1\t20\t20\t0\t0\t%s\t%s\n" % ("0123456789abcdef" * 4, "f" * 64), head(64, 1) + "T\ta\t1\t20\t20\t0\t0\t%s\t%s\n" % ("0123456789abcdef", "f" * 16)]
     found += [head(256, 100000) + "T\tabcdefgh-012\t250000000\t250000000\t250000000\t250000000\t250000000\t%s\t%s\n" % ("0123456789abcdef" * 4, "f" * 64)]
@@ -242,21 +242,19 @@ def of_search():
             found += ["least_beyond %d %s %d %d" % (own, said, limit, known) for limit in limits[::2] for known in (0, 1, own + 3, 400, 6000)]
             found += ["hasten %d %s %d" % (own, said, limit) for limit in limits if own <= limit]
     # searches that go on for long: little is left of the processor
-    for _ in range(60):
-        n = draw.randint(2, 6)
-        base = draw.choice([(10, 20, 40, 80), (12, 18, 24, 36, 72), (100, 150, 300, 450), (64, 96, 128, 192), (1000, 1500, 3000), (7, 11, 13), (20000, 30000, 40000), (16384, 8192), (50, 16385)])
+    for _ in range(12000):
+        base = draw.choice([(10, 20, 40, 80), (12, 18, 24, 36, 72), (100, 150, 300, 450), (7, 11, 13, 17, 19), (50, 75, 16385, 20000), (3, 4, 5, 6, 7, 8, 9), (100, 101, 103), (16384, 8192, 4096), (30, 42, 70, 105), (1000, 1001, 1003)])
         terms, left = [], 1.0
-        for k in range(n):
+        for _ in range(draw.randint(1, 5)):
             period = draw.choice(base)
-            weight = max(1, int(period * left / (n - k))) if k < n - 1 else max(0, int(period * left) - draw.choice([0, 1, 1, 2]))
-            if weight:
-                left -= weight / period
-                terms.append((period, draw.choice([0, 0, draw.randint(0, period)]), weight))
-        if left < 0:
-            continue
-        for own in (1, 60, 999, 20000):
-            limit = draw.choice([100000, 1000000, 20000000])
-            found += ["least %d %s %d" % (own, written_terms(terms), limit), "hasten %d %s %d" % (own, written_terms(terms), limit), "least_beyond %d %s %d %d" % (own, written_terms(terms), limit, draw.choice([0, 500, 50000]))]
+            weight = max(1, int(period * left * draw.choice([0.3, 0.5, 0.8, 0.95, 1.0])))
+            if left < weight / period:
+                break
+            left -= weight / period
+            terms.append((period, draw.choice([0, 0, 0, draw.randint(0, period)]), weight))
+        if terms and 0 < left <= 0.02:
+            own, limit = draw.choice([1, 50, 999, 5000]), draw.choice([200000, 20000000, 250000000])
+            found += ["hasten %d %s %d" % (own, written_terms(terms), limit), "least %d %s %d" % (own, written_terms(terms), limit)]
     answers = ["-", "0", "1", "5", "7", "250000000"]
     found += ["%s %s %s" % (it, a, b) for it in ("sooner", "later") for a in answers for b in answers]
     for step in (1, 4, 16, 64):
@@ -347,6 +345,7 @@ def of_growth():
     for it, n in tables(10, 90) + [(THREE, 3), (THREE + "A\tc\ta\t5\t3\n", 3)] + [(it, it.count("T")) for it in big] + [(head(4, 1) + "T\ta\t20\t20\t20\t0\t0\t0\tf\n", 1), (head(4, 1) + "T\ta\t10\t20\t20\t0\t0\t0\tf\n", 1), (head(4, 1) + "T\ta\t30\t20\t20\t0\t0\t0\tf\n", 1), (head(4, 1) + "T\ta\t1\t20\t20\t0\t30\t0\tf\n", 1), (head(4, 1) + "T\ta\t1\t20\t20\t0\t19\t0\tf\n", 1), (head(4, 1) + "T\ta\t1\t20\t20\t0\t20\t0\tf\n", 1)]:
         found += ["growth %s %d" % (text(it), m) for m in METHODS]
         found += ["scale %s %d" % (text(it), k) for k in (0, 1, 999, 1000, 1001)]
+    found += ["scale %s %d" % (text(many_tasks(n)), k) for n in (31, 32) for k in (1000, 2000)]
     return found
 
 
@@ -442,7 +441,7 @@ def of_values():
 
 def of_crpd_report():
     found = []
-    for it in [text(THREE), text(THREE[:-1]), '""', '"a"', '"K\\t4\\t1\\n"'] + long_texts()[:9] + [text(many_tasks(32))]:
+    for it in [text(THREE), text(THREE[:-1]), '""', '"a"', '"K\\t4\\t1\\n"'] + long_texts() + ["\"a\"*20000", text(many_tasks(32))]:
         for steps in ("-", "2", "0", "1", "2,2,2", "0,0,3", "3,0,4", "3,1", "0,1", "9,9,1", "100,0,100", "2,1"):
             found += ["run %s %s %d" % (it, steps, room) for room in (0, 10, 2746, 9000)]
             found += ["%s %s %s %d" % (call, it, steps, size) for call in ("read_some", "read_input") for size in (0, 1, 5, 16385)]
