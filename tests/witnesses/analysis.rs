@@ -108,7 +108,8 @@ fn answer(name: &str, args: &mut Args) -> String {
         "weigh_row" => {
             let table = tables::read(args);
             let i = args.size();
-            shown(&carried(&table, i).1, i)
+            let (ledger, terms) = carried(&table, i);
+            format!("{:?} {}", &ledger[..i + 1], shown(&terms, i))
         }
         "weigh_access" => {
             let table = tables::read(args);

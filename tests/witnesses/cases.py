@@ -71,6 +71,14 @@ def many_tasks(n, last=""):
     return head(4, 1) + "".join("T\t%s\t1\t%d\t%d\t0\t0\t3\tf\n" % (name(k), 100 + k, 100 + k) for k in range(n)) + last
 
 
+def several_accesses():
+    """Tables in which several accesses may block a task, and the longest is not the worst under every method."""
+    lines = head(8, 2) + "T\ta\t1\t30\t30\t0\t0\t0f\tff\nT\tb\t2\t60\t60\t0\t0\tf3\t3f\nT\tc\t2\t90\t90\t0\t0\tff\tf0\n"
+    pairs = [("c\tb\t5\t00", "c\tb\t4\tff"), ("c\tb\t4\tff", "c\tb\t5\t00"), ("c\tb\t5\t00", "c\ta\t3\tff"), ("c\tb\t5\t0f", "c\tb\t5\tf0"), ("b\ta\t2\tff", "c\tb\t2\tff")]
+    found = [lines + "A\t%s\nA\t%s\n" % pair for pair in pairs] + [lines + "A\tc\tb\t1\tff\nA\tc\tb\t3\t00\nA\tc\tb\t2\tcf\nA\tb\ta\t9\t01\n"]
+    return [(it, 3) for it in found]
+
+
 def many_accesses(n, last=""):
     return head(4, 1) + task(0, 1, 20, 20, 0, 0, 3, 15, 4) + task(1, 1, 30, 30, 0, 0, 3, 15, 4) + "A\tb\ta\t1\t3\n" * n + last
 
@@ -268,7 +276,7 @@ def of_analysis():
     hits = [(0, 0), (0, 3), (1, 0), (1, 2), (2, 1), (5, 5)]
     found += ["larger %d %d %d %d" % (*a, *b) for a in hits for b in hits] + ["victim_with %d %d %d %d" % (*a, *b) for a in hits for b in hits]
     found += ["no_victim_with %d %d %d" % (n, *a) for a in hits for n in (0, 1, 9)] + ["count_of_victim %d %d" % a for a in hits] + ["count_of_no_victim %d" % n for n in (0, 1, 9)]
-    for it, n in tables(5, 80) + [(THREE, 3), (THREE + "A\tc\ta\t5\t3\n", 3), (THREE + "A\tc\tb\t5\tf\nA\tb\ta\t2\t3\n", 3), (many_tasks(32), 32)]:
+    for it, n in tables(5, 80) + [(THREE, 3), (THREE + "A\tc\ta\t5\t3\n", 3), (THREE + "A\tc\tb\t5\tf\nA\tb\ta\t2\t3\n", 3), (many_tasks(32), 32), (head(4, 0) + "T\ta\t250000000\t250000000\t250000000\t0\t0\t0\tf\n", 1), *several_accesses()]:
         said, accesses = text(it), it.count("\nA")
         rows = range(n) if n < 32 else (0, 1, 31)
         found.append("responses %s" % said)
