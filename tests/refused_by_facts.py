@@ -1,7 +1,8 @@
 #!/usr/bin/env python3
-"""refused_by_facts.py LOG: reads what `rt ci` printed, and fails for each must-fail edit that is not refused there because a fact fails: one that no line names, that
-could not be tried, that was refused by a limit of the prover, or only since a proof file names what the edit took away. Such an edit shows nothing about the promise
-that it is to test. The last line is `N passed, M failed`."""
+"""refused_by_facts.py LOG: reads what `rt ci` printed, and fails for each must-fail edit that was not refused there, as far as that can be read: one that no line names, that
+could not be tried, that a limit of the prover refused, or only a proof file that names what the edit took away. Of a refusal rt keeps one line, the first that is no such name,
+and none of the goals behind it: so whether it is the promise that fails, and not a written answer or a search, tests/witnesses.py shows, by a call that the edited code answers
+wrongly. The last line is `N passed, M failed`."""
 import glob
 import os
 import re

@@ -452,8 +452,14 @@ def of_crpd_report():
     for it in [text(THREE), text(THREE[:-1]), '""', '"a"', '"K\\t4\\t1\\n"'] + long_texts() + ["\"a\"*20000", text(many_tasks(32))]:
         for steps in ("-", "2", "0", "1", "2,2,2", "0,0,3", "3,0,4", "3,1", "0,1", "9,9,1", "100,0,100", "2,1"):
             found += ["run %s %s %d" % (it, steps, room) for room in (0, 10, 2746, 9000)]
-            found += ["%s %s %s %d" % (call, it, steps, size) for call in ("read_some", "read_input") for size in (0, 1, 5, 16385)]
     return found
+
+
+def called(case):
+    """What a case calls: of a draft, what is appended last."""
+    words = case.split(" ")
+    appended = [it for it in words[1:] if it.isidentifier() and it != "draft"]
+    return "draft:" + appended[-1] if words[0] == "draft" and appended else words[0]
 
 
 def of(crate):

@@ -1,10 +1,10 @@
-// What the program's functions do with readers and writers of every kind.
-use crate::{read_input, read_some, run, Failure};
+// What the program does with readers and writers of every kind.
+use crate::{run, Failure};
 use std::io::{Error, ErrorKind, Read, Result, Write};
 
 #[path = "common.rs"]
 mod common;
-use common::{filled, show, text, unknown, Args};
+use common::{text, Args};
 
 // A reader that gives its bytes in pieces. What it does at each read stands in `steps`: 0 an interruption, 1 a failure, and from 2 on at most so many bytes less one; at their
 // end as many as there is room for.
@@ -45,34 +45,23 @@ impl Write for Room {
     }
 }
 
+// Whether the promise of `run` is kept, which leaves it open when a read or a write fails: where it is done all that is printed of the bytes is written, and where no
+// read failed as many of them are read as a text may have, and one more; where one failed nothing is written.
 fn answer(name: &str, args: &mut Args) -> String {
-    let left = args.bytes();
-    let mut reader = Steps { left, steps: args.list().into_iter() };
-    match name {
-        "read_some" => {
-            let mut buf = args.buffer();
-            let read = read_some(&mut reader, &mut buf);
-            format!("{} {}", filled(read, &buf), text(&reader.left))
-        }
-        // a read that fails says nothing of the buffer
-        "read_input" => {
-            let mut buf = args.buffer();
-            match read_input(&mut reader, &mut buf) {
-                Ok(len) => format!("{} {} {}", len, text(&buf[..len]), text(&reader.left)),
-                Err(error) => show(error),
-            }
-        }
-        "run" => {
-            let mut writer = Room(vec![], args.size());
-            let ran = run(&mut reader, &mut writer);
-            match ran {
-                Ok(()) => format!("Ok {} {}", text(&writer.0), text(&reader.left)),
-                Err(Failure::Read) => format!("Read {}", text(&writer.0)),
-                Err(Failure::Write(_)) => format!("Write {}", text(&reader.left)),
-            }
-        }
-        _ => unknown(name),
-    }
+    assert_eq!(name, "run");
+    let (bytes, steps, room) = (args.bytes(), args.list(), args.size());
+    let mut reader = Steps { left: bytes.clone(), steps: steps.into_iter() };
+    let mut writer = Room(vec![], room);
+    let ran = run(&mut reader, &mut writer);
+    let (read, unread) = bytes.split_at(bytes.len().min(16385));
+    let mut out = [0u8; 2746];
+    let end = crpd::print(read, &mut out);
+    let is_kept = match ran {
+        Ok(()) => writer.0 == out[..end] && reader.left == unread,
+        Err(Failure::Write(_)) => reader.left == unread,
+        Err(Failure::Read) => writer.0.is_empty(),
+    };
+    if is_kept { "as promised".to_string() } else { format!("not as promised: {}", text(&writer.0)) }
 }
 
 pub fn main() {
