@@ -3,8 +3,9 @@ use crate::{any_order, any_worker, explanations, figures, growths, orders, respo
 use analysis::costs::Single;
 use analysis::Method;
 use cache::sets::CacheSet;
-use search::demand::Term;
+use search::demand::{Response, Term};
 use table::Table;
+use table_text::readable::is_readable;
 use ::{cache, table};
 
 #[path = "common.rs"]
@@ -52,7 +53,12 @@ fn answer(name: &str, args: &mut Args) -> String {
         }
         "total" => {
             let table = tables::read(args);
-            show(explanations::total(&table, method(args), args.size()))
+            let sum = explanations::total(&table, method(args), args.size());
+            // nothing is promised of the sum where the need is beyond
+            match sum.need.time {
+                Response::Within(_) => show(sum),
+                Response::Unschedulable => show(sum.need),
+            }
         }
         "need_and_response" => {
             let table = tables::read(args);
@@ -95,17 +101,23 @@ fn answer(name: &str, args: &mut Args) -> String {
         "of_two_texts" => show(texts::of_two_texts(&args.bytes(), &args.bytes(), args.number(), args.number())),
         "growth_left" => show(texts::growth_left(&args.bytes(), args.number())),
         "read_then_written" => {
+            let text = args.bytes();
+            if Table::empty().read(&text).is_err() {
+                return "nothing is promised of a text that is refused".to_string();
+            }
             let mut out = [b'~'; 9293];
-            let read = texts::read_then_written(&args.bytes(), &mut out);
+            let read = texts::read_then_written(&text, &mut out);
             let end = out.iter().rposition(|b| *b != b'~').map_or(0, |k| k + 1);
             filled(read, &out[..end])
         }
         "written_then_read" => {
             let table = tables::changed(args);
+            if !is_readable(&table) {
+                return "nothing is promised of a table without a text".to_string();
+            }
             let mut again = Table::empty();
             let read = texts::written_then_read(&table, &mut again);
-            // where it is refused nothing is said of the table
-            if read.is_ok() { format!("{:?} {}", read, tables::shown(&again)) } else { show(read) }
+            format!("{:?} {}", read, tables::shown(&again))
         }
         _ => unknown(name),
     }
