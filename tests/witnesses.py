@@ -10,7 +10,7 @@ still, and writes the files; `witnesses.py --call CRATE < CASES` prints what the
 import concurrent.futures
 import glob
 import os
-import shutil
+import re
 import subprocess
 import sys
 import tempfile
@@ -22,6 +22,8 @@ sys.dont_write_bytecode = True
 import plain_rust
 
 SECONDS = 10  # that the cases of one call may take
+TOGETHER = 8  # edits of a crate in one program
+SOME = 3000  # cases on which an edit of the same meaning is tried
 OPTIONS = ["-C", "opt-level=0", "-C", "debuginfo=0"]
 
 
@@ -50,6 +52,9 @@ class Edit:
             return
         self.places.append((file, self.texts[file].index(old)))
         self.texts[file] = self.texts[file].replace(old, new)
+
+    def is_tried(self):
+        return not self.bad and self.is_of_code()
 
     def is_of_code(self):
         """Whether it changes the program, and not a definition, a contract or a proof alone."""
@@ -87,43 +92,46 @@ def write_witnesses(crate, cases):
 
 
 class Programs:
-    """Builds the program that calls a crate's functions, with and without an edit, over the crates as they stand."""
+    """Builds programs that call a crate's functions, as they stand and with edits, over the libraries below as they stand."""
 
-    def __init__(self, room):
+    def __init__(self, room, crates):
         self.room, self.uses = room, plain_rust.crates(ROOT)
-        self.done = {}
+        plain_rust.build(ROOT, room, sorted({low for crate in crates for low in self.uses[crate]}), options=OPTIONS)
 
-    def libraries(self, crates):
-        """Builds the libraries that these crates stand on."""
-        plain_rust.build(ROOT, self.room, [low for crate in crates for low in self.uses[crate]], options=OPTIONS)
-
-    def build(self, crate, name, changes=None):
-        """Builds the program of a crate with these texts, and returns its path."""
-        folder = "%s/of/%s" % (self.room, name)
-        files = plain_rust.sources(ROOT, crate, changes)
-        root = "lib.rs" if "lib.rs" in files else "main.rs"
-        files[root] = files[root].replace("fn main()", "fn program_main()") + '\n#[path = "%s/%s.rs"]\nmod calls;\n\nfn main() {\n    calls::main();\n}\n' % (HERE, crate)
+    def build(self, crate, variants):
+        """Builds one program of a crate with each of these variants as a module of it: of each a name that a module can have, and the texts in place of the files'. Returns for
+        each the command that calls it."""
+        folder = tempfile.mkdtemp(dir=self.room)
+        calls = "".join("        Some(%r) => %s::calls::main(),\n" % (name, name) for name in variants).replace("'", '"')
+        mods = "".join("mod %s;\n" % name for name in variants)
+        files = {"main.rs": "mod common;\n%s\nfn main() {\n    match std::env::args().nth(1).as_deref() {\n%s        _ => panic!(),\n    }\n}\n" % (mods, calls)}
+        for part in ("common", "tables", crate):
+            with open("%s/%s.rs" % (HERE, part), encoding="utf-8") as it:
+                files[part + ".rs"] = it.read()
+        common, tables, driver = (files.pop(part + ".rs") for part in ("common", "tables", crate))
+        files["common.rs"] = common
+        driver = driver.replace('#[path = "common.rs"]\nmod common;', "use crate::common;").replace('#[path = "tables.rs"]', '#[path = "tables.rs"]')
+        for name, changes in variants.items():
+            own = plain_rust.sources(ROOT, crate, changes)
+            root = "lib.rs" if "lib.rs" in own else "main.rs"
+            own["mod.rs"] = own.pop(root) + "\npub mod calls;\n"
+            own.update({"calls.rs": driver, "tables.rs": tables})
+            for path, text in own.items():
+                text = text.replace("#[unsafe(no_mangle)]", "").replace("crate::common", "CRATE::common")
+                files["%s/%s" % (name, path)] = re.sub(r"\bcrate(?=::| as )", "crate::" + name, text).replace("CRATE::common", "crate::common")
         plain_rust.write(folder, files)
-        words = ["--crate-type", "bin", "--crate-name", crate, *OPTIONS, *plain_rust.used(self.room, self.uses, crate), "-o", folder + "/calls"]
-        plain_rust.rustc([*words, root], folder)
-        return folder + "/calls"
+        words = ["--crate-type", "bin", "--crate-name", crate, *OPTIONS, *plain_rust.used(self.room, self.uses, crate), "-o", "calls"]
+        plain_rust.rustc([*words, "main.rs"], folder)
+        return {name: [folder + "/calls", name] for name in variants}
 
 
-def environment():
-    sysroot = subprocess.run(["rustc", "--print", "sysroot"], stdout=subprocess.PIPE, text=True, check=True).stdout.strip()
-    return {**os.environ, "LD_LIBRARY_PATH": sysroot + "/lib"}
-
-
-ENVIRONMENT = environment()
-
-
-def call(program, cases):
-    """What a program answers to cases, a line each. A case on which it hangs or is killed is answered FAULT."""
+def call(command, cases):
+    """What a command answers to cases, a line each. A case on which it hangs or is killed is answered FAULT."""
     said = []
     while len(said) < len(cases):
         given = "".join(case + "\n" for case in cases[len(said) :]).encode()
         try:
-            out = subprocess.run([program], input=given, stdout=subprocess.PIPE, stderr=subprocess.DEVNULL, timeout=SECONDS, env=ENVIRONMENT).stdout
+            out = subprocess.run(command, input=given, stdout=subprocess.PIPE, stderr=subprocess.DEVNULL, timeout=SECONDS).stdout
         except subprocess.TimeoutExpired as late:
             out = late.stdout or b""
         lines = out.decode(errors="replace").split("\n")[:-1]
@@ -142,8 +150,8 @@ def is_fault(said):
     return said.startswith("FAULT")
 
 
-def why_nothing(edit, case, right, programs, bounds):
-    """Why an edit shows nothing, or None. `right` is what the crate as it stands answers to the case."""
+def why_nothing(edit, case, command, right, bounds):
+    """Why an edit shows nothing, or None: it is called by `command`, and `right` is what the crate as it stands answers to the case."""
     if edit.bad:
         return edit.bad
     if not edit.is_of_code():
@@ -152,7 +160,7 @@ def why_nothing(edit, case, right, programs, bounds):
         return "it has no witness in tests/witnesses/%s.txt" % edit.crate
     if is_fault(right):
         return "its witness cannot be called: %s" % right
-    wrong = call(programs.build(edit.crate, edit.name, edit.texts), [case])[0]
+    wrong = call(command, [case])[0]
     if wrong == right:
         return "its witness is answered as before: %s" % case
     if is_fault(wrong) and edit.name not in bounds:
@@ -162,15 +170,27 @@ def why_nothing(edit, case, right, programs, bounds):
     return None
 
 
-def why_not_same(edit, programs, every):
-    """Why the check would take an edit that means the same as the code, or None."""
-    if edit.bad:
-        return edit.bad
-    if not edit.is_of_code():
-        return "it changes no code"
-    plain, edited = (call(programs.build(edit.crate, name, texts), every) for name, texts in ((edit.name + "/plain", None), (edit.name, edit.texts)))
-    found = next((case for case, one, other in zip(every, plain, edited) if one != other), None)
-    return found and "it means something else: %s" % found
+def shares(things, most):
+    return [things[at : at + most] for at in range(0, len(things), most)]
+
+
+def together(programs, chosen, work):
+    """What `work` gives of each of these edits, from the commands that call the crate with the edit and as it stands: several are built together, and where that fails each alone."""
+
+    def of(share):
+        variants = {"as_it_stands": None, **{"edit_%d" % k: edit.texts for k, edit in enumerate(share) if edit.is_tried()}}
+        try:
+            commands = programs.build(share[0].crate, variants)
+        except ValueError as why:
+            if len(share) == 1:
+                return ["it is not compiled: %s" % why]
+            return [said for edit in share for said in of([edit])]
+        return [work(edit, commands.get("edit_%d" % k), commands["as_it_stands"]) for k, edit in enumerate(share)]
+
+    every = [share for crate in sorted({it.crate for it in chosen}) for share in shares([it for it in chosen if it.crate == crate], TOGETHER)]
+    said = in_turn(of, sorted(every, key=len, reverse=True))
+    found = {edit.name: it for share, some in zip(sorted(every, key=len, reverse=True), said) for edit, it in zip(share, some)}
+    return [found[it.name] for it in chosen]
 
 
 def check(names):
@@ -179,16 +199,22 @@ def check(names):
     chosen = edits(names)
     cases, bounds = {it.crate: witnesses(it.crate) for it in chosen}, listed(HERE + "/bounds.txt")
     same = [] if names else [Edit(path.split(os.sep)[-2], path) for path in sorted(glob.glob(ROOT + "/tests/same_meaning/*/*.edit"))]
+
+    def why_not(edit, command, plain):
+        case = cases[edit.crate].get(edit.label)
+        return why_nothing(edit, case, command, call(plain, [case])[0] if case and edit.is_tried() else None, bounds)
+
+    def why_not_same(edit, command, plain):
+        """Why the check would take an edit that means the same as the code, or None."""
+        if not edit.is_tried():
+            return edit.bad or "it changes no code"
+        every = sorted(set(made.of(edit.crate)) | set(witnesses(edit.crate).values()), key=len)[:SOME]
+        found = next((case for case, one, other in zip(every, call(plain, every), call(command, every)) if one != other), None)
+        return found and "it means something else: %s" % found
+
     with tempfile.TemporaryDirectory() as room:
-        programs = Programs(room)
-        programs.libraries(sorted({it.crate for it in chosen + same}))
-
-        def as_it_stands(crate):
-            return dict(zip(cases[crate], call(programs.build(crate, crate + "/as_it_stands"), list(cases[crate].values()))))
-
-        right = dict(zip(cases, in_turn(as_it_stands, cases)))
-        reasons = in_turn(lambda edit: why_nothing(edit, cases[edit.crate].get(edit.label), right[edit.crate].get(edit.label), programs, bounds), chosen)
-        reasons += in_turn(lambda edit: why_not_same(edit, programs, sorted(set(made.of(edit.crate)) | set(cases[edit.crate].values()), key=len)[:3000]), same)
+        programs = Programs(room, {it.crate for it in chosen + same})
+        reasons = together(programs, chosen, why_not) + together(programs, same, why_not_same)
     told = ["%s: %s" % (edit.name, why) for edit, why in zip(chosen + same, reasons) if why]
     if not names:
         there = {it.name for it in chosen}
@@ -199,63 +225,62 @@ def check(names):
 
 
 def show(names):
+    chosen = edits(names)
     with tempfile.TemporaryDirectory() as room:
-        programs, chosen = Programs(room), edits(names)
-        programs.libraries({it.crate for it in chosen})
-        for edit in chosen:
+        programs = Programs(room, {it.crate for it in chosen})
+
+        def both(edit, command, plain):
             case = witnesses(edit.crate).get(edit.label)
-            if case is None:
-                print("%s: no witness" % edit.name)
-                continue
-            print("%s: %s\n  right: %s" % (edit.name, case, call(programs.build(edit.crate, edit.crate), [case])[0]))
-            print("  wrong: %s" % call(programs.build(edit.crate, edit.name, edit.texts), [case])[0])
+            if case is None or not edit.is_tried():
+                return "%s: no witness" % edit.name
+            return "%s: %s\n  right: %s\n  wrong: %s" % (edit.name, case, call(plain, [case])[0], call(command, [case])[0])
+
+        print("\n".join(together(programs, chosen, both)))
+    return False
 
 
 def find(names):
     import cases as made
 
+    chosen, lost = edits(names), []
     with tempfile.TemporaryDirectory() as room:
-        programs, chosen = Programs(room), edits(names)
-        crates = sorted({it.crate for it in chosen})
-        programs.libraries(crates)
-        lost = []
-        for crate in crates:
+        programs = Programs(room, {it.crate for it in chosen})
+        for crate in sorted({it.crate for it in chosen}):
             known = witnesses(crate)
             every = sorted(set(made.of(crate)) | set(known.values()), key=lambda it: (len(it), it))
-            plain = programs.build(crate, crate)
-            said = dict(zip(every, call(plain, every)))
+            said = dict(zip(every, call(programs.build(crate, {"as_it_stands": None})["as_it_stands"], every)))
             odd = [it for it in every if is_fault(said[it])]
             if odd:
                 print("%s: %d of %d cases cannot be called, as %s: %s" % (crate, len(odd), len(every), odd[0][:200], said[odd[0]]))
             every = [it for it in every if not is_fault(said[it])]
 
-            def witness(edit):
-                if edit.bad:
-                    return None, edit.bad
-                if not edit.is_of_code():
-                    return None, "a definition, a contract or a proof alone"
-                program = programs.build(crate, edit.name, edit.texts)
+            def witness(edit, command, plain):
+                """A case that is a witness, or None, and why there is none that is answered."""
+                if not edit.is_tried():
+                    return None, edit.bad or "a definition, a contract or a proof alone"
                 case = known.get(edit.label)
-                if case in said and (wrong := call(program, [case])[0]) != said[case] and not is_fault(wrong):
+                if case in said and (wrong := call(command, [case])[0]) != said[case] and not is_fault(wrong):
                     return case, None
                 fault = None
-                for start in range(0, len(every), 500):
-                    part = every[start : start + 500]
-                    for case, wrong in zip(part, call(program, part)):
+                for part in shares(every, 500):
+                    for case, wrong in zip(part, call(command, part)):
                         if wrong != said[case]:
                             if not is_fault(wrong):
                                 return case, None
                             fault = fault or case
                 return fault, "a fault alone" if fault else "no witness"
 
-            for edit, (case, why) in zip([it for it in chosen if it.crate == crate], in_turn(witness, [it for it in chosen if it.crate == crate])):
+            own = [it for it in chosen if it.crate == crate]
+            for edit, found in zip(own, together(programs, own, witness)):
+                case, why = (None, found) if isinstance(found, str) else found
                 known.pop(edit.label, None)
                 if case:
                     known[edit.label] = case
                 if why:
                     lost.append("%s: %s" % (edit.name, why))
                     print(lost[-1], flush=True)
-            write_witnesses(crate, known)
+            there = {it.label for it in edits([crate])}
+            write_witnesses(crate, {label: case for label, case in known.items() if label in there})
     print("%d passed, %d failed" % (len(chosen) - len(lost), len(lost)))
     return bool(lost)
 
@@ -268,9 +293,8 @@ def main():
         return find(words[1:])
     if words[:1] == ["--call"]:
         with tempfile.TemporaryDirectory() as room:
-            programs = Programs(room)
-            programs.libraries([words[1]])
-            print("\n".join(call(programs.build(words[1], words[1]), sys.stdin.read().splitlines())))
+            plain = Programs(room, [words[1]]).build(words[1], {"as_it_stands": None})["as_it_stands"]
+            print("\n".join(call(plain, sys.stdin.read().splitlines())))
             return False
     return check(words)
 
