@@ -1,0 +1,60 @@
+#!/usr/bin/env python3
+"""refusal.py CRATE/LABEL: checks a crate with a must-fail edit, on a copy that begins with what `rt check` kept of the crate, and prints what is not proved of it, each goal with
+what it says: a promise, an invariant, a call's `requires`, a bound, or a name that the edit took away. rt's own try of the edit says the first of these lines alone. It takes as
+long as a check after a change. Of a goal that is not proved it is not known that it is false: that a witness shows (tests/witnesses.py)."""
+import os
+import re
+import shutil
+import subprocess
+import sys
+import tempfile
+
+ROOT = os.path.dirname(os.path.dirname(os.path.abspath(__file__)))
+sys.path.insert(0, ROOT + "/tests")
+sys.dont_write_bytecode = True
+import witnesses
+
+LOST = re.compile(r"has no field|is not in scope|has no `|was not admitted")
+GOAL = re.compile(r"error: `([^`]+)`|it is not proved that .*\(`([^`]+)`\)")
+KINDS = [
+    (re.compile(r"^returns"), "the promise"),
+    (re.compile(r"^loop.*-(init|preserved|smaller)"), "an invariant"),
+    (re.compile(r"^(overflow_|nonzero_|bounds-|slice_bounds-|offset_bounds-)"), "a bound"),
+    (re.compile(r"-requires"), "what a call asks for"),
+    (re.compile(r"^invariant_of-"), "what a type keeps"),
+]
+
+
+def main():
+    (edit,) = witnesses.edits(sys.argv[1:2])
+    if edit.bad:
+        sys.exit(edit.bad)
+    with tempfile.TemporaryDirectory() as room:
+        os.mkdir(room + "/crates")
+        for file in ("crates.txt", "HANDLES"):
+            if os.path.exists("%s/%s" % (ROOT, file)):
+                shutil.copy("%s/%s" % (ROOT, file), room)
+        for crate in os.listdir(ROOT + "/crates"):
+            if crate != edit.crate:
+                os.symlink("%s/crates/%s" % (ROOT, crate), "%s/crates/%s" % (room, crate))
+        own = "%s/crates/%s" % (room, edit.crate)
+        shutil.copytree("%s/crates/%s" % (ROOT, edit.crate), own, ignore=shutil.ignore_patterns("must-fail"))
+        for file, text in edit.texts.items():
+            with open("%s/%s" % (own, file), "w", encoding="utf-8") as it:
+                it.write(text)
+        ran = subprocess.run(["rt", "check", "--jobs", "1"], cwd=own, stdin=subprocess.DEVNULL, stdout=subprocess.PIPE, stderr=subprocess.STDOUT, text=True, errors="replace")
+    for line in ran.stdout.split("\n"):
+        if not re.match(r"(note: )?\S+:\d+:\d+:", line):
+            continue
+        goal = GOAL.search(line)
+        if LOST.search(line):
+            print("a lost name: %.300s" % line)
+        elif goal:
+            name = goal[1] or goal[2]
+            print("%s (%s): %.300s" % (next((kind for found, kind in KINDS if found.search(name)), "another goal"), name, line))
+        elif ": error" in line:
+            print("an error: %.300s" % line)
+    print(next((line for line in reversed(ran.stdout.split("\n")) if line.startswith("logic=")), "no verdict"))
+
+
+main()
