@@ -24,11 +24,13 @@ impl HostRuntime {
 # What begins a line and is no part of the program: a clause, or a ghost item.
 GHOST = re.compile(r"^[ \t]*(requires|ensures|ghost)\b", re.M)
 MODEL = re.compile(r"^impl[^\n{]*\bModel for[^{]*\{", re.M)
+TACTIC = re.compile(r"[ \t]*#!?\[tactic\([^\]]*\)\]\n?")
+DERIVE = re.compile(r"[ \t]*#\[derive\(([^)]*)\)\]\n")
 TYPE = re.compile(r"^([ \t]*)((?:pub(?:\([a-z]+\))? )?(?:struct|enum) )", re.M)
 
 
 def behind(text, at):
-    """The place behind the braces that open first from here on. Braces in a clause come in pairs, in strings and characters too."""
+    """The place behind the braces that open first from here on; in a clause they come in pairs."""
     depth = 0
     for at in range(text.index("{", at), len(text)):
         depth += {"{": 1, "}": -1}.get(text[at], 0)
@@ -37,22 +39,28 @@ def behind(text, at):
     raise ValueError("braces that are not closed")
 
 
+def clause_end(text, found):
+    """The place behind a clause or a ghost item, with the comma or semicolon that ends it."""
+    if re.match(r"[ \t]*ghost use\b", found[0] + text[found.end() :]):
+        return text.index(";", found.end()) + 1
+    end = behind(text, found.start())
+    return end + text.startswith((",", ";") if found[1] == "ghost" else ",", end)
+
+
+def derived(found):
+    """What a type derives here: Debug is put to each, and no type needs the leave to be dropped."""
+    kept = [it for it in re.split(r",\s*", found[1]) if it not in ("Drop", "Model", "Debug")]
+    return "#[derive(%s)]\n" % ", ".join(kept) if kept else ""
+
+
 def plain(text):
     """A file's text without what is proved."""
     while found := GHOST.search(text):
-        if found[0].split()[0] == "ghost" and re.match(r"[ \t]*ghost use\b", text[found.start() :]):
-            end = text.index(";", found.start()) + 1
-        else:
-            end = behind(text, found.start())
-            end += text[end : end + 1] in (",", ";") and (found[1] == "ghost" or text[end : end + 1] == ",")
-        text = text[: found.start()] + text[end:]
+        text = text[: found.start()] + text[clause_end(text, found) :]
     while found := MODEL.search(text):
         text = text[: found.start()] + text[behind(text, found.start()) :]
-    text = re.sub(r"[ \t]*#!?\[tactic\([^\]]*\)\]\n?", "", text)
-    text = text.replace("use std::marker::Model;\n", "").replace("ErrorKind, Print, ", "ErrorKind, ").replace("b'{'", "123").replace("b'}'", "125")
-    # each type is shown by Debug, and none needs the leave to be dropped
-    text = re.sub(r"[ \t]*#\[derive\(([^)]*)\)\]\n", lambda found: "" if not (kept := [it for it in re.split(r",\s*", found[1]) if it not in ("Drop", "Model", "Debug")]) else "#[derive(%s)]\n" % ", ".join(kept), text)
-    return TYPE.sub(r"\1#[derive(Debug)] \2", text)
+    text = TACTIC.sub("", text).replace("use std::marker::Model;\n", "").replace("ErrorKind, Print, ", "ErrorKind, ")
+    return TYPE.sub(r"\1#[derive(Debug)] \2", DERIVE.sub(derived, text))
 
 
 def crates(root):
