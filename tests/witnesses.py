@@ -21,7 +21,8 @@ sys.path[:0] = [ROOT + "/tools", HERE]
 sys.dont_write_bytecode = True
 import plain_rust
 
-SECONDS = 10  # that the cases of one call may take
+SECONDS = 60  # that the cases of one call may take
+SOON = 10  # the same where witnesses are looked for, among cases on which an edit may not end
 TOGETHER = 8  # edits of a crate in one program
 SOME = 3000  # cases on which an edit of the same meaning is tried
 OPTIONS = ["-C", "opt-level=0", "-C", "debuginfo=0"]
@@ -125,13 +126,13 @@ class Programs:
         return {name: [folder + "/calls", name] for name in variants}
 
 
-def call(command, cases):
+def call(command, cases, seconds=SECONDS):
     """What a command answers to cases, a line each. A case on which it hangs or is killed is answered FAULT."""
     said = []
     while len(said) < len(cases):
         given = "".join(case + "\n" for case in cases[len(said) :]).encode()
         try:
-            out = subprocess.run(command, input=given, stdout=subprocess.PIPE, stderr=subprocess.DEVNULL, timeout=SECONDS).stdout
+            out = subprocess.run(command, input=given, stdout=subprocess.PIPE, stderr=subprocess.DEVNULL, timeout=seconds).stdout
         except subprocess.TimeoutExpired as late:
             out = late.stdout or b""
         lines = out.decode(errors="replace").split("\n")[:-1]
@@ -263,7 +264,7 @@ def find(names):
                     return case, None
                 fault = None
                 for part in shares(every, 500):
-                    for case, wrong in zip(part, call(command, part)):
+                    for case, wrong in zip(part, call(command, part, SOON)):
                         if wrong != said[case]:
                             if not is_fault(wrong):
                                 return case, None
