@@ -142,7 +142,7 @@ def texts():
     found += [head(4, 1) + "A\tc\ta\t5\t3\n", head(4, 1) + "A\tc\ta\t5\t3\nT\ta\t1\t20\t20\t0\t0\t0\tf\n"]
     for n in (31, 32, 33, 34):
         found += [many_tasks(n), many_tasks(n, "T\tA\n"), many_tasks(n, "U\n"), many_tasks(n, "UU\n"), many_tasks(n, "TT\n"), many_tasks(n, "\n"), many_tasks(n, "A\tb\ta\t1\t3\n"), many_tasks(n, "A\tb\ta\t1\t3\nT\tzz\t1\t20\t20\t0\t0\t0\tf\n"), many_tasks(n, "T\ta\t1\t20\t20\t0\t0\t0\tf\n")]
-        found += [many_accesses(n), many_accesses(n, "A\n"), many_accesses(n, "U\n"), many_accesses(n, "T\tc\t1\t20\t20\t0\t0\t0\tf\n")]
+        found += [many_accesses(n), many_accesses(n, "A\n"), many_accesses(n, "U\n"), many_accesses(n, "UU\n"), many_accesses(n, "AA\n"), many_accesses(n, "\n"), many_accesses(n, "T\tc\t1\t20\t20\t0\t0\t0\tf\n")]
     found += [head(256, 1) + "T\ta\t1\t20\t20\t0\t0\t%s\t%s\n" % ("0123456789abcdef" * 4, "f" * 64), head(64, 1) + "T\ta\t1\t20\t20\t0\t0\t%s\t%s\n" % ("0123456789abcdef", "f" * 16)]
     found += [head(256, 100000) + "T\tabcdefgh-012\t250000000\t250000000\t250000000\t250000000\t250000000\t%s\t%s\n" % ("0123456789abcdef" * 4, "f" * 64)]
     return found
