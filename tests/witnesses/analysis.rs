@@ -2,10 +2,10 @@
 use crate::carried::{weigh_access, weigh_row, Column, Terms};
 use crate::costs::{term, Charge, Hit, Single};
 use crate::{blocked_row, need, one_row, respond, rows, Method};
-use ::{cache, table};
 use cache::units::{Reloads, Ticks};
 use table::accesses::{plain_access, Access};
 use table::Table;
+use ::{cache, table};
 
 #[path = "common.rs"]
 mod common;
@@ -14,24 +14,45 @@ mod tables;
 use common::{show, unknown, Args};
 
 fn single(args: &mut Args) -> Single {
-    [Single::None, Single::EcbOnly, Single::UcbOnly, Single::UcbUnion, Single::EcbUnion][args.size()]
+    [
+        Single::None,
+        Single::EcbOnly,
+        Single::UcbOnly,
+        Single::UcbUnion,
+        Single::EcbUnion,
+    ][args.size()]
 }
 
 fn method(args: &mut Args) -> Method {
     match args.number() {
         5 => Method::Combined,
-        n => Method::Of([Single::None, Single::EcbOnly, Single::UcbOnly, Single::UcbUnion, Single::EcbUnion][n as usize]),
+        n => Method::Of(
+            [
+                Single::None,
+                Single::EcbOnly,
+                Single::UcbOnly,
+                Single::UcbUnion,
+                Single::EcbUnion,
+            ][n as usize],
+        ),
     }
 }
 
 // The access at a place, or the task's B where there is none there.
 fn access(table: &Table, i: usize, args: &mut Args) -> Access {
     let n = args.size();
-    if n < table.access_count { table.accesses[n] } else { plain_access(table.tasks[i]) }
+    if n < table.access_count {
+        table.accesses[n]
+    } else {
+        plain_access(table.tasks[i])
+    }
 }
 
 fn hit(args: &mut Args) -> Hit {
-    Hit { reloads: Reloads(args.number()), victim: args.size() }
+    Hit {
+        reloads: Reloads(args.number()),
+        victim: args.size(),
+    }
 }
 
 fn carried(table: &Table, i: usize) -> ([Column; 32], Terms) {
@@ -43,7 +64,13 @@ fn carried(table: &Table, i: usize) -> ([Column; 32], Terms) {
 }
 
 fn shown(terms: &Terms, i: usize) -> String {
-    show([&terms.none[..i], &terms.ecb_only[..i], &terms.ucb_only[..i], &terms.ucb_union[..i], &terms.ecb_union[..i]])
+    show([
+        &terms.none[..i],
+        &terms.ecb_only[..i],
+        &terms.ucb_only[..i],
+        &terms.ucb_union[..i],
+        &terms.ecb_union[..i],
+    ])
 }
 
 fn answer(name: &str, args: &mut Args) -> String {
@@ -55,7 +82,11 @@ fn answer(name: &str, args: &mut Args) -> String {
         "count_of_no_victim" => show(Charge::NoVictim(Reloads(args.number())).count()),
         "victim_with" => show(Charge::Victim(hit(args)).with(hit(args))),
         "no_victim_with" => show(Charge::NoVictim(Reloads(args.number())).with(hit(args))),
-        "term" => show(term(&tables::read(args), args.size(), Reloads(args.number()))),
+        "term" => show(term(
+            &tables::read(args),
+            args.size(),
+            Reloads(args.number()),
+        )),
         "respond" => {
             let table = tables::read(args);
             show(respond(&table, method(args), args.size()))
@@ -103,7 +134,14 @@ fn answer(name: &str, args: &mut Args) -> String {
             let (method, i, limit) = (single(args), args.size(), args.number());
             let row = one_row::charged(&table, method, i);
             let access = access(&table, i, args);
-            show(crate::least_under(&table, method, i, Ticks(limit), &row, access))
+            show(crate::least_under(
+                &table,
+                method,
+                i,
+                Ticks(limit),
+                &row,
+                access,
+            ))
         }
         "weigh_row" => {
             let table = tables::read(args);

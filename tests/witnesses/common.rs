@@ -25,7 +25,11 @@ impl<'a> Args<'a> {
 
     pub fn list(&mut self) -> Vec<u64> {
         let word = self.word();
-        if word == "-" { vec![] } else { word.split(',').map(number).collect() }
+        if word == "-" {
+            vec![]
+        } else {
+            word.split(',').map(number).collect()
+        }
     }
 
     pub fn bytes(&mut self) -> Vec<u8> {
@@ -57,7 +61,13 @@ fn bytes(word: &str) -> Vec<u8> {
                     b't' => piece.push(b'\t'),
                     b'r' => piece.push(b'\r'),
                     b'x' => {
-                        piece.push(u8::from_str_radix(std::str::from_utf8(&left[k + 1..k + 3]).unwrap(), 16).unwrap());
+                        piece.push(
+                            u8::from_str_radix(
+                                std::str::from_utf8(&left[k + 1..k + 3]).unwrap(),
+                                16,
+                            )
+                            .unwrap(),
+                        );
                         k += 2;
                     }
                     other => piece.push(other),
@@ -132,7 +142,10 @@ pub fn run(answer: impl Fn(&str, &mut Args) -> String) {
             said
         }));
         let said = said.unwrap_or_else(|why| {
-            let why = why.downcast_ref::<String>().cloned().or_else(|| why.downcast_ref::<&str>().map(|it| it.to_string()));
+            let why = why
+                .downcast_ref::<String>()
+                .cloned()
+                .or_else(|| why.downcast_ref::<&str>().map(|it| it.to_string()));
             format!("FAULT {}", why.unwrap_or_default().replace('\n', " "))
         });
         writeln!(out.lock(), "{}", said).unwrap();

@@ -13,7 +13,15 @@ mod tables;
 use common::{filled, show, unknown, Args};
 
 fn refusal(args: &mut Args) -> Refusal {
-    Refusal { reason: [Reason::TooLong, Reason::Shape, Reason::Order, Reason::NoText][args.size()], line: args.number() }
+    Refusal {
+        reason: [
+            Reason::TooLong,
+            Reason::Shape,
+            Reason::Order,
+            Reason::NoText,
+        ][args.size()],
+        line: args.number(),
+    }
 }
 
 fn told(name: &str, args: &mut Args) -> String {
@@ -24,7 +32,8 @@ fn told(name: &str, args: &mut Args) -> String {
             filled(report(&text, &mut out), &out)
         }
         "explain" => {
-            let (text, method, position, mut out) = (args.bytes(), args.number(), args.number(), args.buffer());
+            let (text, method, position, mut out) =
+                (args.bytes(), args.number(), args.number(), args.buffer());
             filled(explain(&text, method, position, &mut out), &out)
         }
         "write" => {
@@ -48,7 +57,9 @@ fn told(name: &str, args: &mut Args) -> String {
         }
         "code_number" => show(code(Ok::<u64, Refusal>(args.number()))),
         "code_length" => show(code(Ok::<usize, Refusal>(args.size()))),
-        "code_within" => show(code(Ok::<Response, Refusal>(Response::Within(Ticks(args.number()))))),
+        "code_within" => show(code(Ok::<Response, Refusal>(Response::Within(Ticks(
+            args.number(),
+        ))))),
         "code_none" => show(code(Ok::<Response, Refusal>(Response::Unschedulable))),
         "code_refusal" => show(code(Err::<u64, Refusal>(refusal(args)))),
         _ => unknown(name),

@@ -1,5 +1,7 @@
 // What the exported functions answer.
-use crate::{crpd_answer, crpd_explain, crpd_growth, crpd_print, crpd_report, crpd_rewrite, crpd_scaled};
+use crate::{
+    crpd_answer, crpd_explain, crpd_growth, crpd_print, crpd_report, crpd_rewrite, crpd_scaled,
+};
 
 #[path = "common.rs"]
 mod common;
@@ -13,7 +15,8 @@ fn answer(name: &str, args: &mut Args) -> String {
             filled(crpd_report(&text, &mut out), &out)
         }
         "crpd_explain" => {
-            let (text, method, position, mut out) = (args.bytes(), args.number(), args.number(), args.buffer());
+            let (text, method, position, mut out) =
+                (args.bytes(), args.number(), args.number(), args.buffer());
             filled(crpd_explain(&text, method, position, &mut out), &out)
         }
         "crpd_rewrite" => {

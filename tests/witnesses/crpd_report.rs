@@ -50,7 +50,10 @@ impl Write for Room {
 fn answer(name: &str, args: &mut Args) -> String {
     assert_eq!(name, "run");
     let (bytes, steps, room) = (args.bytes(), args.list(), args.size());
-    let mut reader = Steps { left: bytes.clone(), steps: steps.into_iter() };
+    let mut reader = Steps {
+        left: bytes.clone(),
+        steps: steps.into_iter(),
+    };
     let mut writer = Room(vec![], room);
     let ran = run(&mut reader, &mut writer);
     let (read, unread) = bytes.split_at(bytes.len().min(16385));
@@ -61,7 +64,11 @@ fn answer(name: &str, args: &mut Args) -> String {
         Err(Failure::Write(_)) => reader.left == unread,
         Err(Failure::Read) => writer.0.is_empty(),
     };
-    if is_kept { "as promised".to_string() } else { format!("not as promised: {}", text(&writer.0)) }
+    if is_kept {
+        "as promised".to_string()
+    } else {
+        format!("not as promised: {}", text(&writer.0))
+    }
 }
 
 pub fn main() {

@@ -18,7 +18,15 @@ fn answer(name: &str, args: &mut Args) -> String {
             let table = tables::read(args);
             let method = match args.number() {
                 5 => Method::Combined,
-                n => Method::Of([Single::None, Single::EcbOnly, Single::UcbOnly, Single::UcbUnion, Single::EcbUnion][n as usize]),
+                n => Method::Of(
+                    [
+                        Single::None,
+                        Single::EcbOnly,
+                        Single::UcbOnly,
+                        Single::UcbUnion,
+                        Single::EcbUnion,
+                    ][n as usize],
+                ),
             };
             show(growth(&table, method))
         }

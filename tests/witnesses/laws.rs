@@ -1,5 +1,7 @@
 // What the functions of `laws` answer, as far as their promises leave one answer.
-use crate::{any_order, any_worker, explanations, figures, growths, orders, responses, solutions, texts};
+use crate::{
+    any_order, any_worker, explanations, figures, growths, orders, responses, solutions, texts,
+};
 use analysis::costs::Single;
 use analysis::Method;
 use cache::sets::CacheSet;
@@ -20,13 +22,27 @@ fn set(args: &mut Args) -> CacheSet {
 }
 
 fn single(args: &mut Args) -> Single {
-    [Single::None, Single::EcbOnly, Single::UcbOnly, Single::UcbUnion, Single::EcbUnion][args.size()]
+    [
+        Single::None,
+        Single::EcbOnly,
+        Single::UcbOnly,
+        Single::UcbUnion,
+        Single::EcbUnion,
+    ][args.size()]
 }
 
 fn method(args: &mut Args) -> Method {
     match args.number() {
         5 => Method::Combined,
-        n => Method::Of([Single::None, Single::EcbOnly, Single::UcbOnly, Single::UcbUnion, Single::EcbUnion][n as usize]),
+        n => Method::Of(
+            [
+                Single::None,
+                Single::EcbOnly,
+                Single::UcbOnly,
+                Single::UcbUnion,
+                Single::EcbUnion,
+            ][n as usize],
+        ),
     }
 }
 
@@ -34,9 +50,17 @@ fn terms(args: &mut Args) -> Vec<Term> {
     let word = args.word();
     let term_of = |word: &str| {
         let numbers: Vec<u64> = word.split('/').map(number).collect();
-        Term { period: Ticks(numbers[0]), jitter: Ticks(numbers[1]), weight: Ticks(numbers[2]) }
+        Term {
+            period: Ticks(numbers[0]),
+            jitter: Ticks(numbers[1]),
+            weight: Ticks(numbers[2]),
+        }
     };
-    if word == "-" { vec![] } else { word.split(',').map(term_of).collect() }
+    if word == "-" {
+        vec![]
+    } else {
+        word.split(',').map(term_of).collect()
+    }
 }
 
 fn answer(name: &str, args: &mut Args) -> String {
@@ -45,7 +69,11 @@ fn answer(name: &str, args: &mut Args) -> String {
         "either_grouping" => show(any_order::either_grouping(set(args), set(args), set(args))),
         "with_itself" => show(any_order::with_itself(set(args))),
         "shared_sizes" => show(any_order::shared_sizes(set(args), set(args), set(args))),
-        "answered_twice" => show(any_worker::answered_twice(&args.bytes(), args.number(), args.number())),
+        "answered_twice" => show(any_worker::answered_twice(
+            &args.bytes(),
+            args.number(),
+            args.number(),
+        )),
         "reported_twice" => {
             let (text, mut own, mut others) = (args.bytes(), args.buffer(), args.buffer());
             let reports = any_worker::reported_twice(&text, &mut own, &mut others);
@@ -62,7 +90,11 @@ fn answer(name: &str, args: &mut Args) -> String {
         }
         "need_and_response" => {
             let table = tables::read(args);
-            show(explanations::need_and_response(&table, method(args), args.size()))
+            show(explanations::need_and_response(
+                &table,
+                method(args),
+                args.size(),
+            ))
         }
         "figure_response" => {
             let table = tables::read(args);
@@ -70,14 +102,24 @@ fn answer(name: &str, args: &mut Args) -> String {
         }
         "figure_charge" => {
             let table = tables::read(args);
-            show(figures::charge(&table, single(args), args.size(), args.size()))
+            show(figures::charge(
+                &table,
+                single(args),
+                args.size(),
+                args.size(),
+            ))
         }
         "left" => {
             let table = tables::read(args);
             show(growths::left(&table, method(args)))
         }
         "in_two_tables" => {
-            let (first, i, second, k) = (tables::read(args), args.size(), tables::read(args), args.size());
+            let (first, i, second, k) = (
+                tables::read(args),
+                args.size(),
+                tables::read(args),
+                args.size(),
+            );
             show(orders::in_two_tables(&first, i, &second, k, method(args)))
         }
         "in_any_order" => {
@@ -97,8 +139,17 @@ fn answer(name: &str, args: &mut Args) -> String {
             let table = tables::read(args);
             show(responses::combined(&table, args.size()))
         }
-        "smallest" => show(solutions::smallest(Ticks(args.number()), &terms(args), Ticks(args.number()))),
-        "of_two_texts" => show(texts::of_two_texts(&args.bytes(), &args.bytes(), args.number(), args.number())),
+        "smallest" => show(solutions::smallest(
+            Ticks(args.number()),
+            &terms(args),
+            Ticks(args.number()),
+        )),
+        "of_two_texts" => show(texts::of_two_texts(
+            &args.bytes(),
+            &args.bytes(),
+            args.number(),
+            args.number(),
+        )),
         "growth_left" => show(texts::growth_left(&args.bytes(), args.number())),
         "read_then_written" => {
             let text = args.bytes();

@@ -25,7 +25,15 @@ fn answer(name: &str, args: &mut Args) -> String {
             let table = tables::read(args);
             let method = match args.number() {
                 5 => Method::Combined,
-                n => Method::Of([Single::None, Single::EcbOnly, Single::UcbOnly, Single::UcbUnion, Single::EcbUnion][n as usize]),
+                n => Method::Of(
+                    [
+                        Single::None,
+                        Single::EcbOnly,
+                        Single::UcbOnly,
+                        Single::UcbUnion,
+                        Single::EcbUnion,
+                    ][n as usize],
+                ),
             };
             let (i, mut out) = (args.size(), args.buffer());
             filled(explanation::explain(&table, method, i, &mut out), &out)
@@ -33,8 +41,19 @@ fn answer(name: &str, args: &mut Args) -> String {
         // rows of six responses each, 0 where there is none
         "verdict_line" => {
             let numbers = args.list();
-            let told = |n: u64| if n == 0 { Response::Unschedulable } else { Response::Within(Ticks(n)) };
-            let rows: Vec<Row> = numbers.chunks(6).map(|row| Row { responses: std::array::from_fn(|m| told(row[m])) }).collect();
+            let told = |n: u64| {
+                if n == 0 {
+                    Response::Unschedulable
+                } else {
+                    Response::Within(Ticks(n))
+                }
+            };
+            let rows: Vec<Row> = numbers
+                .chunks(6)
+                .map(|row| Row {
+                    responses: std::array::from_fn(|m| told(row[m])),
+                })
+                .collect();
             let mut draft = Draft::new();
             write_verdict_line(&mut draft, &rows);
             text(draft.text())

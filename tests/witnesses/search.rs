@@ -13,17 +13,29 @@ use common::{number, show, unknown, Args};
 // PERIOD/JITTER/WEIGHT
 fn term_of(word: &str) -> Term {
     let numbers: Vec<u64> = word.split('/').map(number).collect();
-    Term { period: Ticks(numbers[0]), jitter: Ticks(numbers[1]), weight: Ticks(numbers[2]) }
+    Term {
+        period: Ticks(numbers[0]),
+        jitter: Ticks(numbers[1]),
+        weight: Ticks(numbers[2]),
+    }
 }
 
 fn terms(args: &mut Args) -> Vec<Term> {
     let word = args.word();
-    if word == "-" { vec![] } else { word.split(',').map(term_of).collect() }
+    if word == "-" {
+        vec![]
+    } else {
+        word.split(',').map(term_of).collect()
+    }
 }
 
 fn response(args: &mut Args) -> Response {
     let word = args.word();
-    if word == "-" { Response::Unschedulable } else { Response::Within(Ticks(number(word))) }
+    if word == "-" {
+        Response::Unschedulable
+    } else {
+        Response::Within(Ticks(number(word)))
+    }
 }
 
 fn answer(name: &str, args: &mut Args) -> String {
@@ -41,10 +53,16 @@ fn answer(name: &str, args: &mut Args) -> String {
         "least" => {
             let (own, terms, limits) = (args.number(), terms(args), args.list());
             let mut counts = firsts(&terms);
-            show(limits.iter().map(|limit| least(Ticks(own), &terms, Ticks(*limit), &mut counts)).collect::<Vec<_>>())
+            show(
+                limits
+                    .iter()
+                    .map(|limit| least(Ticks(own), &terms, Ticks(*limit), &mut counts))
+                    .collect::<Vec<_>>(),
+            )
         }
         "least_beyond" => {
-            let (own, terms, limit, known) = (args.number(), terms(args), args.number(), args.number());
+            let (own, terms, limit, known) =
+                (args.number(), terms(args), args.number(), args.number());
             let mut counts = firsts(&terms);
             let found = least_beyond(Ticks(own), &terms, Ticks(limit), Ticks(known), &mut counts);
             show(match found {
@@ -62,7 +80,13 @@ fn answer(name: &str, args: &mut Args) -> String {
             for (k, entry) in entries.iter_mut().enumerate() {
                 *entry = k as u64;
             }
-            show(window_at(&entries, args.size(), args.number(), args.size(), args.number()))
+            show(window_at(
+                &entries,
+                args.size(),
+                args.number(),
+                args.size(),
+                args.number(),
+            ))
         }
         _ => unknown(name),
     }

@@ -1,12 +1,12 @@
 // What the public functions of `table` answer.
 use crate as table;
-use ::cache;
 use crate::accesses::{plain_access, Access};
 use crate::fields::{is_name, is_within, read_number, same_bytes};
 use crate::refusals::{Reason, Refusal};
 use crate::tasks::{is_known, position_of, Head, Name, Task};
 use crate::text::{first_field, next_line, Fields, Lines};
 use crate::Table;
+use ::cache;
 use cache::sets::CacheSet;
 use cache::units::Ticks;
 
@@ -17,9 +17,24 @@ mod tables;
 use common::{show, text, unknown, Args};
 
 pub const REASONS: [Reason; 18] = [
-    Reason::TooLong, Reason::NotEnded, Reason::Shape, Reason::Name, Reason::Number, Reason::Range, Reason::Marks, Reason::Order, Reason::KnownName,
-    Reason::TooManyTasks, Reason::NoTask, Reason::Method, Reason::Position, Reason::ShortBuffer, Reason::OtherTask, Reason::TooManyAccesses,
-    Reason::Blocking, Reason::NoText,
+    Reason::TooLong,
+    Reason::NotEnded,
+    Reason::Shape,
+    Reason::Name,
+    Reason::Number,
+    Reason::Range,
+    Reason::Marks,
+    Reason::Order,
+    Reason::KnownName,
+    Reason::TooManyTasks,
+    Reason::NoTask,
+    Reason::Method,
+    Reason::Position,
+    Reason::ShortBuffer,
+    Reason::OtherTask,
+    Reason::TooManyAccesses,
+    Reason::Blocking,
+    Reason::NoText,
 ];
 
 // A name of any twelve bytes.
@@ -71,15 +86,34 @@ fn answer(name: &str, args: &mut Args) -> String {
         "position_of" => show(position_of(name_of(args), tables::changed(args).tasks())),
         "is_known" => show(is_known(name_of(args), tables::changed(args).tasks())),
         "may_block" => {
-            let access = Access { task: args.size(), ceiling: args.size(), lasts: Ticks(1), ucb: CacheSet::EMPTY };
+            let access = Access {
+                task: args.size(),
+                ceiling: args.size(),
+                lasts: Ticks(1),
+                ucb: CacheSet::EMPTY,
+            };
             show(access.may_block(args.size()))
         }
         "plain_access" => show(plain_access(*tables::changed(args).task(args.size()))),
         "head" => show(Head::read(&args.bytes())),
-        "head_in_range" => show(Head { sets: args.number(), brt: Ticks(args.number()) }.in_range()),
-        "task_line" => show(Task::read(&args.bytes(), args.number(), tables::changed(args).tasks())),
+        "head_in_range" => show(
+            Head {
+                sets: args.number(),
+                brt: Ticks(args.number()),
+            }
+            .in_range(),
+        ),
+        "task_line" => show(Task::read(
+            &args.bytes(),
+            args.number(),
+            tables::changed(args).tasks(),
+        )),
         "is_timely" => show(tables::changed(args).task(args.size()).is_timely()),
-        "access_line" => show(Access::read(&args.bytes(), args.number(), tables::changed(args).tasks())),
+        "access_line" => show(Access::read(
+            &args.bytes(),
+            args.number(),
+            tables::changed(args).tasks(),
+        )),
         _ => unknown(name),
     }
 }

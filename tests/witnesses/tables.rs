@@ -69,13 +69,34 @@ pub fn changed(args: &mut Args) -> Table {
 
 // A table: its numbers, the tasks and accesses that it has, and what stands in the places behind them.
 pub fn shown(table: &Table) -> String {
-    let tasks: Vec<(usize, &Task)> = table.tasks.iter().enumerate().filter(|(k, task)| *k < table.count || !is_empty(task)).collect();
-    let accesses: Vec<(usize, &Access)> = table.accesses.iter().enumerate().filter(|(k, access)| *k < table.access_count || !is_unused(access)).collect();
-    format!("{} {:?} {} {} {:?} {:?}", table.sets, table.brt, table.count, table.access_count, tasks, accesses)
+    let tasks: Vec<(usize, &Task)> = table
+        .tasks
+        .iter()
+        .enumerate()
+        .filter(|(k, task)| *k < table.count || !is_empty(task))
+        .collect();
+    let accesses: Vec<(usize, &Access)> = table
+        .accesses
+        .iter()
+        .enumerate()
+        .filter(|(k, access)| *k < table.access_count || !is_unused(access))
+        .collect();
+    format!(
+        "{} {:?} {} {} {:?} {:?}",
+        table.sets, table.brt, table.count, table.access_count, tasks, accesses
+    )
 }
 
 fn is_empty(task: &Task) -> bool {
-    let none = [task.work, task.period, task.deadline, task.jitter, task.blocking].iter().all(|it| it.0 == 0);
+    let none = [
+        task.work,
+        task.period,
+        task.deadline,
+        task.jitter,
+        task.blocking,
+    ]
+    .iter()
+    .all(|it| it.0 == 0);
     none && task.name.bytes == [0; 12] && no_words(task.ucb) && no_words(task.ecb)
 }
 

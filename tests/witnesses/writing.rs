@@ -10,9 +10,24 @@ mod common;
 use common::{filled, show, text, unknown, Args};
 
 const REASONS: [Reason; 18] = [
-    Reason::TooLong, Reason::NotEnded, Reason::Shape, Reason::Name, Reason::Number, Reason::Range, Reason::Marks, Reason::Order, Reason::KnownName,
-    Reason::TooManyTasks, Reason::NoTask, Reason::Method, Reason::Position, Reason::ShortBuffer, Reason::OtherTask, Reason::TooManyAccesses,
-    Reason::Blocking, Reason::NoText,
+    Reason::TooLong,
+    Reason::NotEnded,
+    Reason::Shape,
+    Reason::Name,
+    Reason::Number,
+    Reason::Range,
+    Reason::Marks,
+    Reason::Order,
+    Reason::KnownName,
+    Reason::TooManyTasks,
+    Reason::NoTask,
+    Reason::Method,
+    Reason::Position,
+    Reason::ShortBuffer,
+    Reason::OtherTask,
+    Reason::TooManyAccesses,
+    Reason::Blocking,
+    Reason::NoText,
 ];
 
 // A draft with what each of these words appends to it.
@@ -32,7 +47,13 @@ fn drafted(args: &mut Args) -> Draft {
             "fields" => draft.fields(&args.list()),
             "fields_bool" => draft.fields(&args.list().iter().map(|n| *n == 1).collect::<Vec<_>>()),
             "marks" => write_marks(&mut draft, args.number(), CacheSet::at(&args.list(), 0)),
-            "error" => write_error(&mut draft, Refusal { reason: REASONS[args.size()], line: args.number() }),
+            "error" => write_error(
+                &mut draft,
+                Refusal {
+                    reason: REASONS[args.size()],
+                    line: args.number(),
+                },
+            ),
             other => panic!("nothing appends {}", other),
         }
     }
