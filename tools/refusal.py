@@ -12,17 +12,10 @@ import tempfile
 ROOT = os.path.dirname(os.path.dirname(os.path.abspath(__file__)))
 sys.path.insert(0, ROOT + "/tests")
 sys.dont_write_bytecode = True
+import refused_by_facts
 import witnesses
 
 LOST = re.compile(r"has no field|is not in scope|has no `|was not admitted")
-GOAL = re.compile(r"error: `([^`]+)`|it is not proved that .*\(`([^`]+)`\)")
-KINDS = [
-    (re.compile(r"^returns"), "the promise"),
-    (re.compile(r"^loop.*-(init|preserved|smaller)"), "an invariant"),
-    (re.compile(r"^(overflow_|nonzero_|bounds-|slice_bounds-|offset_bounds-)"), "a bound"),
-    (re.compile(r"-requires"), "what a call asks for"),
-    (re.compile(r"^invariant_of-"), "what a type keeps"),
-]
 
 
 def main():
@@ -46,12 +39,11 @@ def main():
     for line in ran.stdout.split("\n"):
         if not re.match(r"(note: )?\S+:\d+:\d+:", line):
             continue
-        goal = GOAL.search(line)
+        kind, goal = refused_by_facts.kind_of(line)
         if LOST.search(line):
             print("a lost name: %.300s" % line)
         elif goal:
-            name = goal[1] or goal[2]
-            print("%s (%s): %.300s" % (next((kind for found, kind in KINDS if found.search(name)), "another goal"), name, line))
+            print("%s (%s): %.300s" % (kind, goal, line))
         elif ": error" in line:
             print("an error: %.300s" % line)
     print(next((line for line in reversed(ran.stdout.split("\n")) if line.startswith("logic=")), "no verdict"))
