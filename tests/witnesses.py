@@ -5,8 +5,8 @@ with no such line, and one whose answer is the same; and where the edit answers 
 tests/witnesses/bounds.txt says of it why that is the error. Last it tries the edits of tests/same_meaning, on every case that there is: they mean the same as the code, so none
 may have a witness. The last line is `N passed, M failed`.
 
-`witnesses.py --show CRATE/LABEL..` prints both answers; `witnesses.py --find CRATE[/LABEL]..` looks for witnesses among the cases of tests/witnesses/cases.py, keeps what is one
-still, and writes the files; `witnesses.py --call CRATE < CASES` prints what the crate as it stands answers."""
+`witnesses.py --show CRATE/LABEL..` prints both answers; `witnesses.py --find [CRATE[/LABEL]..]` looks for witnesses among the cases of tests/witnesses/cases.py, those first that
+call a function of the file that is edited, keeps what is one still, and writes the files; `witnesses.py --call CRATE < CASES` prints what the crate as it stands answers."""
 import concurrent.futures
 import glob
 import os
@@ -240,6 +240,14 @@ def show(names):
     return False
 
 
+def words_of(crate, file):
+    """The words by which cases call the public functions of a file."""
+    import public_functions
+
+    known = public_functions.lines()
+    return {word for _, name, _ in public_functions.functions(crate).get(file, []) if name in known for word in known[name][0]}
+
+
 def find(names):
     import cases as made
 
@@ -262,8 +270,8 @@ def find(names):
                 case = known.get(edit.label)
                 if case in said and (wrong := call(command, [case])[0]) != said[case] and not is_fault(wrong):
                     return case, None
-                fault = None
-                for part in shares(every, 500):
+                fault, near = None, {word for file, _ in edit.places for word in words_of(crate, file)}
+                for part in shares(sorted(every, key=lambda it: made.called(it) not in near), 500):
                     for case, wrong in zip(part, call(command, part, SOON)):
                         if wrong != said[case]:
                             if not is_fault(wrong):
