@@ -17,25 +17,21 @@ pub step-some : (step : ℕ) → IsStep step ⊎ (step ≡ 256) → step ≤ 64 
 step-some step (inl is) h = is
 step-some step (inr e) h = absurd (omega arith)
 
-pub step-first : IsStep 1
+pub step-first : IsStep 16
 step-first = inl refl
 
 pub step-next : (step : ℕ) → IsStep step → IsStep (step * 4) ⊎ (step * 4 ≡ 256)
-step-next step (inl e) = rw e (inl (inr (inl refl)))
-step-next step (inr (inl e)) = rw e (inl (inr (inr (inl refl))))
-step-next step (inr (inr (inl e))) = rw e (inl (inr (inr (inr refl))))
-step-next step (inr (inr (inr e))) = rw e (inr refl)
+step-next step (inl e) = rw e (inl (inr refl))
+step-next step (inr e) = rw e (inr refl)
 
-pub step-least : (step : ℕ) → IsStep step → (1 ≤ step) × (step ≤ 64)
+pub step-least : (step : ℕ) → IsStep step → (16 ≤ step) × (step ≤ 64)
 step-least step (inl e) = (omega arith, omega arith)
-step-least step (inr (inl e)) = (omega arith, omega arith)
-step-least step (inr (inr (inl e))) = (omega arith, omega arith)
-step-least step (inr (inr (inr e))) = (omega arith, omega arith)
+step-least step (inr e) = (omega arith, omega arith)
 
 -- what the rounds before v ask for beyond their shares, for as long as four steps from r on
 pub record Ahead (t : ℕ → Term) (n : ℕ) (classes : List ℕ) (step r v ahead : ℕ) : Type 0 where
   pub most : ahead ≤ v * 18014398509481984
-  pub asked : (d : ℕ) → d < 32 * step → AskMore (before_class classes v) t n ahead (r + d)
+  pub asked : (d : ℕ) → d < 4 * step → AskMore (before_class classes v) t n ahead (r + d)
 
 module _ (t : ℕ → Term) (n : ℕ) (classes : List ℕ) (step r : ℕ) where
   pub ahead_none : Ahead t n classes step r 0 0
@@ -50,7 +46,7 @@ module _ (t : ℕ → Term) (n : ℕ) (classes : List ℕ) (step r : ℕ) where
 
   -- those of all rounds are taken, and so are those that are taken by their shares alone
   pub ahead-all : (made ahead : ℕ) → made ≤ 8 → ((j : ℕ) → j < n → InRange (t j)) → Ahead t n classes step r made ahead
-      → (d : ℕ) → d < 32 * step → AskMore (taken classes) t n ahead (r + d)
+      → (d : ℕ) → d < 4 * step → AskMore (taken classes) t n ahead (r + d)
   ahead-all made ahead few ranged a d l =
       let e : made + (9 - made) ≡ 9 = omega arith in
       rw e at (ask-up classes t n (r + d) made (9 - made) ahead ranged (a.asked d l))
@@ -78,8 +74,8 @@ module _ (own : ℕ) (t : ℕ → Term) (n : ℕ) (rounds : Rounds) (entries : L
 
     -- by what they ask for in some windows, for as long as these are
     pub leapt-soon : (step ahead soon : ℕ) → Ahead t n rounds.classes step r rounds.made ahead
-        → soon ≤ ceil (work * 17179869184 + ahead) rounds.free → soon ≤ r + 32 * step → Reached (demand_of own t n) soon
-    leapt-soon step ahead soon a within near = reached-below _ (demand-mono t n own ranged) _ (λ s e. elim (dec_le (r + 32 * step) s) [
+        → soon ≤ ceil (work * 17179869184 + ahead) rounds.free → soon ≤ r + 4 * step → Reached (demand_of own t n) soon
+    leapt-soon step ahead soon a within near = reached-below _ (demand-mono t n own ranged) _ (λ s e. elim (dec_le (r + 4 * step) s) [
       | yes l ↦ omega arith
       | no l ↦ (
           let m = lt_of_not-le l in

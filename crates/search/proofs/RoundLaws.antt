@@ -9,7 +9,7 @@ use Rattle.search.proofs.DemandLaws.{ceil-mul, ceil-is}
 use Rattle.search.specs.Shares.{share_of}
 use Rattle.search.proofs.ShareLaws.{release-share, work-share}
 use Rattle.search.specs.Classes.{in_class, AskMore}
-use Rattle.search.specs.Rounds.{lack_of, lack_in, lacks_of, Added, LacksIn, LeastOver, Blocked, IsStep, place_of, WindowsIn, Windowed, Tabled}
+use Rattle.search.specs.Rounds.{lack_of, lack_in, lacks_of, Added, LacksIn, LeastOver, IsStep, place_of, WindowsIn, Windowed, Tabled}
 use Rattle.search.proofs.ClassLaws.{over_none, over-next, ask-each}
 
 -- ---- one term
@@ -19,7 +19,7 @@ ceil-before x t h = omega (arith, div-mul-le_self (x + (t - 1)) t)
 
 -- a term added at the first i ticks, and not yet at the others
 pub record Adding (period jitter share i : ℕ) (before after : List ℕ) : Type 0 where
-  pub long : length after ≡ 18952
+  pub long : length after ≡ 16704
   pub each : (x : ℕ) → x < i → get_or after x 0 ≡ get_or before x 0 + lack_of period jitter share x
   pub rest : (x : ℕ) → i ≤ x → get_or after x 0 ≡ get_or before x 0
 
@@ -80,10 +80,10 @@ module _ (classes : List ℕ) (round ticks : ℕ) (t : ℕ → Term) where
   unfolding lacks_of
   lacks-next n x = over-next (in_class classes round) (λ j. lack_in ticks (t j) x) n
 
-  pub lacks-in_none : (count : ℕ) → count ≤ 18952 → LacksIn t 0 classes round ticks count (replicate 18952 0)
+  pub lacks-in_none : (count : ℕ) → count ≤ 16704 → LacksIn t 0 classes round ticks count (replicate 16704 0)
   lacks-in_none count few = record {
-    lacking = record { long = length-replicate {A = ℕ} 18952 0; most = λ x l. omega (arith, get_or-replicate {A = ℕ} 18952 x 0 0 (omega arith)) };
-    each = λ x l. get_or-replicate {A = ℕ} 18952 x 0 0 (omega arith) ∙ sym (lacks_none x);
+    lacking = record { long = length-replicate {A = ℕ} 16704 0; most = λ x l. omega (arith, get_or-replicate {A = ℕ} 16704 x 0 0 (omega arith)) };
+    each = λ x l. get_or-replicate {A = ℕ} 16704 x 0 0 (omega arith) ∙ sym (lacks_none x);
   }
 
   pub lacks-in-one : (n count share : ℕ) (before after : List ℕ) → get_or classes n 0 ≡ round → ticks % (t n).period.0 ≡ 0 → share ≡ share_of (t n)
@@ -114,26 +114,24 @@ module _ (classes : List ℕ) (round ticks : ℕ) (t : ℕ → Term) where
 -- ---- windows
 
 -- what holds of each step
-by-step : (P : ℕ → Type 0) → P 1 → P 4 → P 16 → P 64 → (step : ℕ) → IsStep step → P step
-by-step P a b c d step (inl e) = subst P (sym e) a
-by-step P a b c d step (inr (inl e)) = subst P (sym e) b
-by-step P a b c d step (inr (inr (inl e))) = subst P (sym e) c
-by-step P a b c d step (inr (inr (inr e))) = subst P (sym e) d
+by-step : (P : ℕ → Type 0) → P 16 → P 64 → (step : ℕ) → IsStep step → P step
+by-step P a b step (inl e) = subst P (sym e) a
+by-step P a b step (inr e) = subst P (sym e) b
 
 -- the windows before the k-th are made, and the other entries stand
-pub record Opening (blocks : List ℕ) (step first k : ℕ) (before after : List ℕ) : Type 0 where
-  pub long : length after ≡ 32768
-  pub each : (j : ℕ) → j < k → LeastOver blocks (step * j) (5 * step) (get_or after (first + j) 0)
+pub record Opening (lacks : List ℕ) (step first k : ℕ) (before after : List ℕ) : Type 0 where
+  pub long : length after ≡ 16384
+  pub each : (j : ℕ) → j < k → LeastOver lacks (step * j) (5 * step) (get_or after (first + j) 0)
   pub others : (i : ℕ) → (i < first) ⊎ (first + k ≤ i) → get_or after i 0 ≡ get_or before i 0
 
 -- when all windows of a round are made
-module _ (blocks : List ℕ) (round ticks : ℕ) (before after : List ℕ) where
+module _ (lacks : List ℕ) (round ticks : ℕ) (before after : List ℕ) where
   Whole : ℕ → Type 0
-  Whole step = (k : ℕ) → (ticks + (8 * step - 1)) / (8 * step) ≤ k → k ≤ (ticks + (8 * step - 1)) / (8 * step)
-      → Opening blocks step (4096 * round + 2048 / step) k before after → WindowsIn blocks round ticks step before after
+  Whole step = (k : ℕ) → (ticks + (step - 1)) / step ≤ k → k ≤ (ticks + (step - 1)) / step
+      → Opening lacks step (2048 * round + 16384 / step) k before after → WindowsIn lacks round ticks step before after
 
-  whole-of : (step : ℕ) → ((k j : ℕ) → (ticks + (8 * step - 1)) / (8 * step) ≤ k → j * (8 * step) < ticks → j < k)
-      → ((ticks + (8 * step - 1)) / (8 * step) ≤ 2048 / step) → Whole step
+  whole-of : (step : ℕ) → ((k j : ℕ) → (ticks + (step - 1)) / step ≤ k → j * step < ticks → j < k)
+      → ((ticks + (step - 1)) / step ≤ 16384 / step) → Whole step
   unfolding Whole
   whole-of step all few k least most o = record {
     long = o.long;
@@ -141,123 +139,104 @@ module _ (blocks : List ℕ) (round ticks : ℕ) (before after : List ℕ) where
     others = λ i l. o.others i (apart i l);
   }
     where
-      apart : (i : ℕ) → (i < 4096 * round + 2048 / step) ⊎ (4096 * round + 2 * (2048 / step) ≤ i) → (i < 4096 * round + 2048 / step) ⊎ (4096 * round + 2048 / step + k ≤ i)
+      apart : (i : ℕ) → (i < 2048 * round + 16384 / step) ⊎ (2048 * round + 2 * (16384 / step) ≤ i) → (i < 2048 * round + 16384 / step) ⊎ (2048 * round + 16384 / step + k ≤ i)
       apart i (inl h) = inl h
       apart i (inr h) = inr (omega arith)
 
-  pub opened : (step : ℕ) → IsStep step → ticks ≤ 16384 → (k : ℕ) → (ticks + (8 * step - 1)) / (8 * step) ≤ k → k ≤ (ticks + (8 * step - 1)) / (8 * step)
-      → Opening blocks step (4096 * round + 2048 / step) k before after → WindowsIn blocks round ticks step before after
+  pub opened : (step : ℕ) → IsStep step → ticks ≤ 16384 → (k : ℕ) → (ticks + (step - 1)) / step ≤ k → k ≤ (ticks + (step - 1)) / step
+      → Opening lacks step (2048 * round + 16384 / step) k before after → WindowsIn lacks round ticks step before after
   unfolding Whole
   opened step is short =
       by-step Whole
-      (whole-of 1 (λ k j h l. omega arith) (omega arith))
-      (whole-of 4 (λ k j h l. omega arith) (omega arith))
       (whole-of 16 (λ k j h l. omega arith) (omega arith))
       (whole-of 64 (λ k j h l. omega arith) (omega arith))
       step is
 
 -- ---- all windows of a round
 
-module _ (t : ℕ → Term) (n : ℕ) (classes : List ℕ) (round ticks count : ℕ) (lacks blocks : List ℕ) (few : n ≤ 32) (ranged : (j : ℕ) → j < n → InRange (t j))
-    (some : 1 ≤ ticks) (short : ticks ≤ 16384) (all : count ≡ ticks / 8 + 321)
-    (l : LacksIn t n classes round ticks (8 * count) lacks) (b : Blocked lacks count blocks) where
-  block-lacks : (x : ℕ) → x < 8 * count → get_or blocks (x / 8) 0 ≤ get_or lacks x 0
-  block-lacks x h = b.each (x / 8) (omega arith) x (omega arith) (omega arith)
-
+module _ (t : ℕ → Term) (n : ℕ) (classes : List ℕ) (round ticks count : ℕ) (lacks : List ℕ) (few : n ≤ 32) (ranged : (j : ℕ) → j < n → InRange (t j))
+    (some : 1 ≤ ticks) (short : ticks ≤ 16384) (all : count ≡ ticks + 320)
+    (l : LacksIn t n classes round ticks count lacks) where
   -- what is lacking some time after s is asked for then
-  lacking-asked : (s d r : ℕ) → s % ticks + d < 8 * count → r ≤ get_or lacks (s % ticks + d) 0 → AskMore (in_class classes round) t n r (s + d)
+  lacking-asked : (s d r : ℕ) → s % ticks + d < count → r ≤ get_or lacks (s % ticks + d) 0 → AskMore (in_class classes round) t n r (s + d)
   lacking-asked s d r h le =
       let x = s % ticks + d in
       let e : s / ticks * ticks + x ≡ s + d = omega (arith, div-add-mod' s ticks) in
       omega (arith, l.each x h, rw e at (lacks-asked classes round ticks t n ranged (s / ticks) x))
 
-  -- the least of all blocks
-  module _ (low : ℕ) (least : LeastOver blocks 0 count low) where
-    low-lacks : (x : ℕ) → x < 8 * count → low ≤ get_or lacks x 0
-    low-lacks x h = omega (arith, block-lacks x h, least (x / 8) (omega arith) (omega arith))
-
+  -- the least of a whole round
+  module _ (low : ℕ) (least : LeastOver lacks 0 ticks low) where
     low-bound : low ≤ 18014398509481984
-    low-bound = omega (arith, low-lacks 0 (omega arith), l.lacking.most 0 (omega arith))
+    low-bound = omega (arith, least 0 (omega arith) (omega arith), l.lacking.most 0 (omega arith))
 
     low-is-asked : (s : ℕ) → AskMore (in_class classes round) t n low s
     low-is-asked s =
         let h : s % ticks < ticks = mod-lt s some in
         let e : s + 0 ≡ s = omega arith in
-        rw e at (lacking-asked s 0 low (omega arith) (low-lacks (s % ticks + 0) (omega arith)))
+        rw e at (lacking-asked s 0 low (omega arith) (least (s % ticks + 0) (omega arith) (omega arith)))
 
-  module _ (before one four sixteen after : List ℕ) (w₁ : WindowsIn blocks round ticks 1 before one) (w₂ : WindowsIn blocks round ticks 4 one four)
-      (w₃ : WindowsIn blocks round ticks 16 four sixteen) (w₄ : WindowsIn blocks round ticks 64 sixteen after) where
+  module _ (before one after : List ℕ) (w₁ : WindowsIn lacks round ticks 16 before one) (w₂ : WindowsIn lacks round ticks 64 one after) where
     Stands : ℕ → Type 0
-    Stands step = (k : ℕ) → k * (8 * step) < ticks → LeastOver blocks (step * k) (5 * step) (get_or after (place_of round step k) 0)
+    Stands step = (k : ℕ) → k * step < ticks → LeastOver lacks (step * k) (5 * step) (get_or after (place_of round step k) 0)
 
     stands : (step : ℕ) → IsStep step → Stands step
     unfolding Stands
-    stands = by-step Stands
-        (λ k h. rw (w₄.others (place_of round 1 k) (inr (omega arith)), w₃.others (place_of round 1 k) (inr (omega arith)), w₂.others (place_of round 1 k) (inr (omega arith))) (w₁.each k h))
-        (λ k h. rw (w₄.others (place_of round 4 k) (inr (omega arith)), w₃.others (place_of round 4 k) (inr (omega arith))) (w₂.each k h))
-        (λ k h. rw (w₄.others (place_of round 16 k) (inr (omega arith))) (w₃.each k h))
-        w₄.each
+    stands = by-step Stands (λ k h. rw (w₂.others (place_of round 16 k) (inr (omega arith))) (w₁.each k h)) w₂.each
 
     -- a window is no more than what is lacking at any time for as long as four steps
     Under : ℕ → Type 0
-    Under step = (r d : ℕ) → r < ticks → d < 32 * step → get_or after (place_of round step (r / (8 * step))) 0 ≤ get_or lacks (r + d) 0
+    Under step = (r d : ℕ) → r < ticks → d < 4 * step → (r + d < count) × (get_or after (place_of round step (r / step)) 0 ≤ get_or lacks (r + d) 0)
 
-    under-at : (step : ℕ) → IsStep step → (1 ≤ step) → (step ≤ 64) → ((r d : ℕ) → d < 32 * step → (step * (r / (8 * step)) ≤ (r + d) / 8) × ((r + d) / 8 < step * (r / (8 * step)) + 5 * step)) → Under step
+    under-at : (step : ℕ) → IsStep step → step ≤ 64 → ((r d : ℕ) → d < 4 * step → (step * (r / step) ≤ r + d) × (r + d < step * (r / step) + 5 * step)) → Under step
     unfolding Stands Under
-    under-at step is one most within r d h g =
+    under-at step is most within r d h g =
         let w = within r d g in
-        let q : r / (8 * step) * (8 * step) < ticks = omega (arith, div-mul-le_self r (8 * step)) in
-        omega (arith, stands step is (r / (8 * step)) q ((r + d) / 8) w.0 w.1, block-lacks (r + d) (omega arith))
+        let q : r / step * step < ticks = omega (arith, div-mul-le_self r step) in
+        (omega arith, stands step is (r / step) q (r + d) w.0 w.1)
 
     under : (step : ℕ) → IsStep step → Under step
     under = by-step Under
-        (under-at 1 (inl refl) (omega arith) (omega arith) (λ r d h. (omega arith, omega arith)))
-        (under-at 4 (inr (inl refl)) (omega arith) (omega arith) (λ r d h. (omega arith, omega arith)))
-        (under-at 16 (inr (inr (inl refl))) (omega arith) (omega arith) (λ r d h. (omega arith, omega arith)))
-        (under-at 64 (inr (inr (inr refl))) (omega arith) (omega arith) (λ r d h. (omega arith, omega arith)))
+        (under-at 16 (inl refl) (omega arith) (λ r d h. (omega arith, omega arith)))
+        (under-at 64 (inr refl) (omega arith) (λ r d h. (omega arith, omega arith)))
 
-    step-most : (step : ℕ) → IsStep step → (1 ≤ step) × (step ≤ 64)
-    step-most = by-step (λ step. (1 ≤ step) × (step ≤ 64)) (omega arith, omega arith) (omega arith, omega arith) (omega arith, omega arith) (omega arith, omega arith)
+    step-least : (step : ℕ) → IsStep step → 1 ≤ step
+    step-least = by-step (λ step. 1 ≤ step) (omega arith) (omega arith)
 
-    pub tabled : (low : ℕ) → LeastOver blocks 0 count low → Tabled t n classes round ticks low before after
+    pub tabled : (low : ℕ) → LeastOver lacks 0 ticks low → Tabled t n classes round ticks low before after
     unfolding Under
     tabled low least = record {
-      long = w₄.long;
+      long = w₂.long;
       windowed = record {
         some = some;
         short = short;
         most = λ step s is.
-            let m = step-most step is in
-            let h : s % ticks < ticks = mod-lt s some in
-            omega (arith, under step is (s % ticks) 0 h (omega arith), l.lacking.most (s % ticks + 0) (omega arith));
+            let u = under step is (s % ticks) 0 (mod-lt s some) (omega (arith, step-least step is)) in
+            omega (arith, u.1, l.lacking.most (s % ticks + 0) u.0);
         asked = λ step s d is g.
-            let m = step-most step is in
-            let h : s % ticks < ticks = mod-lt s some in
-            lacking-asked s d _ (omega arith) (under step is (s % ticks) d h g);
+            let u = under step is (s % ticks) d (mod-lt s some) g in
+            lacking-asked s d _ u.0 u.1;
       };
       low-most = low-bound low least;
       low-asked = low-is-asked low least;
-      others = λ i h. w₄.others i (inl (omega arith)) ∙ w₃.others i (inl (omega arith)) ∙ w₂.others i (inl (omega arith)) ∙ w₁.others i (inl (omega arith));
+      others = λ i h. w₂.others i (inl (omega arith)) ∙ w₁.others i (inl (omega arith));
     }
 
 -- a window of a round stands among the round's places
 pub place-within : (round ticks : ℕ) → 1 ≤ ticks → ticks ≤ 16384 → (step : ℕ) → IsStep step → (s : ℕ)
-    → place_of round step (s % ticks / (8 * step)) < 4096 * (round + 1)
-place-within round ticks some short = by-step (λ step. (s : ℕ) → place_of round step (s % ticks / (8 * step)) < 4096 * (round + 1))
-    (λ s. omega (arith, mod-lt s some, short))
-    (λ s. omega (arith, mod-lt s some, short))
+    → place_of round step (s % ticks / step) < 2048 * (round + 1)
+place-within round ticks some short = by-step (λ step. (s : ℕ) → place_of round step (s % ticks / step) < 2048 * (round + 1))
     (λ s. omega (arith, mod-lt s some, short))
     (λ s. omega (arith, mod-lt s some, short))
 
 -- the windows of a round stand where only those of later rounds are made
-pub windowed-stands : {t : ℕ → Term} {n : ℕ} {classes : List ℕ} {round ticks : ℕ} {before after : List ℕ} → ((i : ℕ) → i < 4096 * (round + 1) → get_or after i 0 ≡ get_or before i 0)
+pub windowed-stands : {t : ℕ → Term} {n : ℕ} {classes : List ℕ} {round ticks : ℕ} {before after : List ℕ} → ((i : ℕ) → i < 2048 * (round + 1) → get_or after i 0 ≡ get_or before i 0)
     → Windowed t n classes round ticks before → Windowed t n classes round ticks after
 windowed-stands {round = round} {ticks = ticks} same w = record {
   some = w.some;
   short = w.short;
-  most = λ step s is. rw (same (place_of round step (s % ticks / (8 * step))) (within step is s)) (w.most step s is);
-  asked = λ step s d is g. rw (same (place_of round step (s % ticks / (8 * step))) (within step is s)) (w.asked step s d is g);
+  most = λ step s is. rw (same (place_of round step (s % ticks / step)) (within step is s)) (w.most step s is);
+  asked = λ step s d is g. rw (same (place_of round step (s % ticks / step)) (within step is s)) (w.asked step s d is g);
 }
   where
-    within : (step : ℕ) → IsStep step → (s : ℕ) → place_of round step (s % ticks / (8 * step)) < 4096 * (round + 1)
+    within : (step : ℕ) → IsStep step → (s : ℕ) → place_of round step (s % ticks / step) < 2048 * (round + 1)
     within = place-within round ticks w.some w.short

@@ -28,11 +28,11 @@ lacks_of classes round ticks t n x = sum_over (in_class classes round) (λ j. la
 
 -- lists of what is lacking at the first `count` ticks: `terms` terms lack no more than so much
 pub record Lacking (terms count : ℕ) (lacks : List ℕ) : Type 0 where
-  pub long : length lacks ≡ 18952
+  pub long : length lacks ≡ 16704
   pub most : (x : ℕ) → x < count → slice_index lacks x ≤ terms * 562949953421312
 
 pub record Added (period jitter share count : ℕ) (before after : List ℕ) : Type 0 where
-  pub long : length after ≡ 18952
+  pub long : length after ≡ 16704
   pub each : (x : ℕ) → x < count → slice_index after x ≡ slice_index before x + lack_of period jitter share x
   pub each-most : (x : ℕ) → x < count → lack_of period jitter share x ≤ 562949953421312
 
@@ -46,48 +46,44 @@ pub record LacksIn (t : ℕ → Term) (n : ℕ) (classes : List ℕ) (round tick
 abbrev pub LeastOver : List ℕ → ℕ → ℕ → ℕ → Type 0
 LeastOver list from count r = (i : ℕ) → from ≤ i → i < from + count → r ≤ slice_index list i
 
-pub record Blocked (lacks : List ℕ) (count : ℕ) (blocks : List ℕ) : Type 0 where
-  pub long : length blocks ≡ 2369
-  pub each : (k : ℕ) → k < count → LeastOver lacks (8 * k) 8 (slice_index blocks k)
-
--- by how many blocks one window starts after another
+-- by how many ticks one window starts after another
 abbrev pub IsStep : ℕ → Type 0
-IsStep step = (step ≡ 1) ⊎ (step ≡ 4) ⊎ (step ≡ 16) ⊎ (step ≡ 64)
+IsStep step = (step ≡ 16) ⊎ (step ≡ 64)
 
 -- where the window of a round stands that starts after k steps
 abbrev pub place_of : ℕ → ℕ → ℕ → ℕ
-place_of round step k = 4096 * round + 2048 / step + k
+place_of round step k = 2048 * round + 16384 / step + k
 
-pub record WindowsIn (blocks : List ℕ) (round ticks step : ℕ) (before after : List ℕ) : Type 0 where
-  pub long : length after ≡ 32768
-  pub each : (k : ℕ) → k * (8 * step) < ticks → LeastOver blocks (step * k) (5 * step) (slice_index after (place_of round step k))
-  pub others : (i : ℕ) → (i < 4096 * round + 2048 / step) ⊎ (4096 * round + 2 * (2048 / step) ≤ i) → slice_index after i ≡ slice_index before i
+pub record WindowsIn (lacks : List ℕ) (round ticks step : ℕ) (before after : List ℕ) : Type 0 where
+  pub long : length after ≡ 16384
+  pub each : (k : ℕ) → k * step < ticks → LeastOver lacks (step * k) (5 * step) (slice_index after (place_of round step k))
+  pub others : (i : ℕ) → (i < 2048 * round + 16384 / step) ⊎ (2048 * round + 2 * (16384 / step) ≤ i) → slice_index after i ≡ slice_index before i
 
 -- the window in which a time is, in a round of so many ticks
 abbrev pub window_at : List ℕ → ℕ → ℕ → ℕ → ℕ → ℕ
-window_at entries round ticks step s = slice_index entries (place_of round step (s % ticks / (8 * step)))
+window_at entries round ticks step s = slice_index entries (place_of round step (s % ticks / step))
 
 -- what the windows of a round say: from any time on, for as long as four steps, its terms ask for as much beyond their shares
 pub record Windowed (t : ℕ → Term) (n : ℕ) (classes : List ℕ) (round ticks : ℕ) (entries : List ℕ) : Type 0 where
   pub some : 1 ≤ ticks
   pub short : ticks ≤ 16384
   pub most : (step s : ℕ) → IsStep step → window_at entries round ticks step s ≤ 18014398509481984
-  pub asked : (step s d : ℕ) → IsStep step → d < 32 * step → AskMore (in_class classes round) t n (window_at entries round ticks step s) (s + d)
+  pub asked : (step s d : ℕ) → IsStep step → d < 4 * step → AskMore (in_class classes round) t n (window_at entries round ticks step s) (s + d)
 
 -- the windows of a round are made, and the others stand
 pub record Tabled (t : ℕ → Term) (n : ℕ) (classes : List ℕ) (round ticks low : ℕ) (before after : List ℕ) : Type 0 where
-  pub long : length after ≡ 32768
+  pub long : length after ≡ 16384
   pub windowed : Windowed t n classes round ticks after
   pub low-most : low ≤ 18014398509481984
   pub low-asked : (s : ℕ) → AskMore (in_class classes round) t n low s
-  pub others : (i : ℕ) → i < 4096 * round → slice_index after i ≡ slice_index before i
+  pub others : (i : ℕ) → i < 2048 * round → slice_index after i ≡ slice_index before i
 
 -- ---- some rounds
 
 pub record RoundsOf (t : ℕ → Term) (n : ℕ) (r : Rounds) (entries : List ℕ) : Type 0 where
   pub classes-long : length r.classes ≡ 32
   pub ticks-long : length r.ticks ≡ 8
-  pub long : length entries ≡ 32768
+  pub long : length entries ≡ 16384
   pub few : r.made ≤ 8
   pub windowed : (v : ℕ) → v < r.made → Windowed t n r.classes v (slice_index r.ticks v) entries
   pub free-is : r.free + shares_over (taken r.classes) t n ≡ 17179869184

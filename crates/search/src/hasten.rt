@@ -133,7 +133,7 @@ fn leap(
         return all;
     }
     let mut best = next;
-    let mut step: usize = 1;
+    let mut step: usize = 16;
     while step <= 64 {
         let mut ahead: u64 = 0;
         for v in 0..rounds.made {
@@ -143,7 +143,7 @@ fn leap(
         if bound <= best {
             return best;
         }
-        let end = r + 32 * step as u64;
+        let end = r + 4 * step as u64;
         if bound <= end {
             return bound;
         }

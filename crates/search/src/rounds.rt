@@ -7,7 +7,7 @@ ghost use Rattle.search.specs.Terms.{term_in, Handed};
 ghost use Rattle.search.specs.Shares.{shares_of};
 ghost use Rattle.search.specs.Grouping.{ShortTaken};
 ghost use Rattle.search.specs.Classes.{shares_over, taken};
-ghost use Rattle.search.specs.Rounds.{Near, Lacking, LeastOver, Added, LacksIn, Blocked, IsStep, WindowsIn, Tabled, RoundsOf, window_at};
+ghost use Rattle.search.specs.Rounds.{Near, Lacking, LeastOver, Added, LacksIn, IsStep, WindowsIn, Tabled, RoundsOf, window_at};
 
 use crate::demand::Term;
 use crate::grouping::COUNTED;
@@ -15,14 +15,12 @@ use crate::shares::WHOLE;
 use crate::{grouping, shares};
 
 // Places of a round's windows, and of those of all rounds.
-pub const SLOT: usize = 4096;
+pub const SLOT: usize = 2048;
 
-pub const WINDOWS: usize = 32768;
+pub const WINDOWS: usize = 16384;
 
-// The longest round and the longest window, in ticks and in blocks of eight.
-const LACKS: usize = 18952;
-
-const BLOCKS: usize = 2369;
+// The ticks of the longest round and of the longest window.
+const LACKS: usize = 16704;
 
 // What is known of some rounds beside their windows: the class of each term, the ticks of each of the `made` rounds, what the terms that are taken leave free of
 // the processor, and what they ask for beyond their shares at any time.
@@ -63,7 +61,7 @@ fn release_from(release: u64, period: u64, at: u64) -> u64
 
 // Adds to each of the first `count` ticks of a round what one term asks for beyond its share there: its share goes on up to its next release.
 fn add_term(period: u64, jitter: u64, share: u64, count: usize, lacks: &mut [u64; LACKS])
-    requires { (1 ≤ period) × (period ≤ 16384) × (jitter ≤ period) × (share ≤ 17179869184) × (count ≤ 18952) × Lacking 31 count lacks.old }
+    requires { (1 ≤ period) × (period ≤ 16384) × (jitter ≤ period) × (share ≤ 17179869184) × (count ≤ 16704) × Lacking 31 count lacks.old }
     ensures { Added period jitter share count lacks.old lacks.new }
 {
     let mut release: u64 = 0;
@@ -91,7 +89,7 @@ fn lacking(
     ticks: u64,
     count: usize,
 ) -> [u64; LACKS]
-    requires { Handed 1 terms.now 0 × (shares_of (term_in terms.now) (length terms.now) < 17179869184) × ShortTaken (term_in terms.now) (length terms.now) classes.now × (round < 8) × (count ≤ 18952) }
+    requires { Handed 1 terms.now 0 × (shares_of (term_in terms.now) (length terms.now) < 17179869184) × ShortTaken (term_in terms.now) (length terms.now) classes.now × (round < 8) × (count ≤ 16704) }
     ensures { LacksIn (term_in terms.now) (length terms.now) classes.now round ticks count result }
 {
     let mut lacks = [0u64; LACKS];
@@ -124,33 +122,21 @@ fn least_of(list: &[u64], from: usize, count: usize) -> u64
     least
 }
 
-// The least in each block.
-fn blocks_of(lacks: &[u64; LACKS], count: usize) -> [u64; BLOCKS]
-    requires { (count ≤ 2369) × (length lacks.now ≡ 18952) }
-    ensures { Blocked lacks.now count result }
-{
-    let mut blocks = [0u64; BLOCKS];
-    for k in 0..count {
-        blocks[k] = least_of(lacks, 8 * k, 8);
-    }
-    blocks
-}
-
-// The least in each window of a round: one starts at every `step` blocks, and has five times as many.
+// The least in each window of a round: one starts at every `step` ticks, and has five times as many.
 fn windows(
-    blocks: &[u64; BLOCKS],
+    lacks: &[u64; LACKS],
     round: usize,
     ticks: u64,
     step: usize,
     entries: &mut [u64; WINDOWS],
 )
-    requires { IsStep step × (round < 8) × (1 ≤ ticks) × (ticks ≤ 16384) × (length blocks.now ≡ 2369) × (length entries.old ≡ 32768) }
-    ensures { WindowsIn blocks.now round ticks step entries.old entries.new }
+    requires { IsStep step × (round < 8) × (1 ≤ ticks) × (ticks ≤ 16384) × (length lacks.now ≡ 16704) × (length entries.old ≡ 16384) }
+    ensures { WindowsIn lacks.now round ticks step entries.old entries.new }
 {
-    let count = (ticks as usize + (8 * step - 1)) / (8 * step);
-    let first = SLOT * round + 2048 / step;
+    let count = (ticks as usize + (step - 1)) / step;
+    let first = SLOT * round + 16384 / step;
     for k in 0..count {
-        entries[first + k] = least_of(blocks, step * k, 5 * step);
+        entries[first + k] = least_of(lacks, step * k, 5 * step);
     }
 }
 
@@ -162,31 +148,28 @@ fn tabulate(
     ticks: u64,
     entries: &mut [u64; WINDOWS],
 ) -> u64
-    requires { Handed 1 terms.now 0 × (shares_of (term_in terms.now) (length terms.now) < 17179869184) × ShortTaken (term_in terms.now) (length terms.now) classes.now × (round < 8) × (1 ≤ ticks) × (ticks ≤ 16384) × (length entries.old ≡ 32768) }
+    requires { Handed 1 terms.now 0 × (shares_of (term_in terms.now) (length terms.now) < 17179869184) × ShortTaken (term_in terms.now) (length terms.now) classes.now × (round < 8) × (1 ≤ ticks) × (ticks ≤ 16384) × (length entries.old ≡ 16384) }
     ensures { Tabled (term_in terms.now) (length terms.now) classes.now round ticks result entries.old entries.new }
 {
-    let count = ticks as usize / 8 + 321;
-    let lacks = lacking(terms, classes, round, ticks, 8 * count);
-    let blocks = blocks_of(&lacks, count);
-    windows(&blocks, round, ticks, 1, entries);
-    windows(&blocks, round, ticks, 4, entries);
-    windows(&blocks, round, ticks, 16, entries);
-    windows(&blocks, round, ticks, 64, entries);
-    least_of(&blocks, 0, count)
+    let count = ticks as usize;
+    let lacks = lacking(terms, classes, round, ticks, count + 320);
+    windows(&lacks, round, ticks, 16, entries);
+    windows(&lacks, round, ticks, 64, entries);
+    least_of(&lacks, 0, count)
 }
 
 // The window of a round in which a time is.
 pub fn window_at(entries: &[u64; WINDOWS], round: usize, ticks: u64, step: usize, at: u64) -> u64
-    requires { (length entries.now ≡ 32768) × (round < 8) × (1 ≤ ticks) × (ticks ≤ 16384) × IsStep step }
+    requires { (length entries.now ≡ 16384) × (round < 8) × (1 ≤ ticks) × (ticks ≤ 16384) × IsStep step }
     ensures { result ≡ window_at entries.now round ticks step at }
 {
-    let k = (at % ticks) as usize / (8 * step);
-    entries[SLOT * round + 2048 / step + k]
+    let k = (at % ticks) as usize / step;
+    entries[SLOT * round + 16384 / step + k]
 }
 
 // Rounds for some terms, and their windows.
 pub fn make(terms: &[Term], entries: &mut [u64; WINDOWS]) -> Rounds
-    requires { Handed 1 terms.now 0 × (shares_of (term_in terms.now) (length terms.now) < 17179869184) × (length entries.old ≡ 32768) }
+    requires { Handed 1 terms.now 0 × (shares_of (term_in terms.now) (length terms.now) < 17179869184) × (length entries.old ≡ 16384) }
     ensures { RoundsOf (term_in terms.now) (length terms.now) result entries.new }
 {
     let mut classes = [COUNTED; 32];

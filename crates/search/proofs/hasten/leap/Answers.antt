@@ -30,7 +30,7 @@ loop-step-preserved c =
     let is = step-some _ i.0 (omega arith) in
     let m = step-least _ is in
     let e : c.loop-v.v ≡ c.args.rounds.now.made = omega arith in
-    let at : Reached (demand_of c.args.own (term_in c.args.terms.now) (length c.args.terms.now)) (c.args.r + 32 * c.loop-step.step) =
+    let at : Reached (demand_of c.args.own (term_in c.args.terms.now) (length c.args.terms.now)) (c.args.r + 4 * c.loop-step.step) =
     leapt-soon _ _ _ _ _ c.requires.handed.0.ranged c.requires.rounds _ _ c.requires.reached.0 c.counted_at-counted.ensures.0
     _ _ _ (rw e at c.loop-v.invariant) (omega arith) (omega arith) in
     elim c.if-best-end.branch [

@@ -6,4 +6,4 @@ use Rattle.search.proofs.rounds.tabulate.Goals as goal
 pub returns : goal.returns
 returns c =
     let p = c.requires in
-    tabled _ _ _ _ _ _ _ _ p.0.few p.0.ranged p.4 p.5 refl c.lacking-lacks.ensures c.blocks_of-blocks.ensures _ _ _ _ _ c.windows.ensures c.windows-2.ensures c.windows-3.ensures c.windows-4.ensures _ c.least_of.ensures
+    tabled _ _ _ _ _ _ _ p.0.few p.0.ranged p.4 p.5 refl c.lacking-lacks.ensures _ _ _ c.windows.ensures c.windows-2.ensures _ c.least_of.ensures

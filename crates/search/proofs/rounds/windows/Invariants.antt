@@ -3,4 +3,4 @@ use Rattle.search.proofs.RoundLaws.{Opening}
 use Rattle.search.proofs.rounds.windows.Given as goal
 
 abbrev pub invariant-loop-k : goal.invariant-loop-k
-invariant-loop-k l = Opening l.blocks l.step l.first l.k l.initial.entries l.entries
+invariant-loop-k l = Opening l.lacks l.step l.first l.k l.initial.entries l.entries
