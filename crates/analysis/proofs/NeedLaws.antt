@@ -1,5 +1,5 @@
 -- How a need is found, and what it says of the response.
-use Rattle.std.proofs.Common.{ℕ, ◌+◌, max, ◌≤◌, ◌<◌, arith, ◌≡◌, refl, sym, ap, ap₂, ◌∙◌, Bool, true, false, cond, List, [], ◌∷◌, ◌++◌, map, append-nil, ltb, leb, length, get_or, take, take-suc, add-one, le-leb, ltb-true, ltb-false, fold}
+use Rattle.std.proofs.Common.{ℕ, ◌+◌, max, ◌≤◌, ◌<◌, arith, ◌≡◌, refl, sym, ap, ap₂, ◌∙◌, Bool, true, false, cond, List, [], ◌∷◌, ◌++◌, map, append-nil, ltb, leb, length, get_or, take, take-suc, add-one, le-leb, le-ltb, ltb-true, ltb-false, fold}
 use Rattle.std.proofs.Math.Decide.{dec_le}
 use Rattle.std.proofs.lemmas.Bool.{lt-leb}
 use Rattle.std.proofs.lemmas.List.{map-append}
@@ -10,7 +10,7 @@ use Rattle.search.specs.declared.demand.Response.{Response}
 use Rattle.search.specs.declared.demand.Response.TheVariants.{Within, Unschedulable}
 use Rattle.search.specs.Least.{least_of, LeastWithin, sooner, later, latest_of}
 use Rattle.search.proofs.LeastLaws.{least_of-least, least-is}
-use Rattle.search.proofs.LaterLaws.{latest-front}
+use Rattle.search.proofs.LaterLaws.{later_first, latest-front}
 use Rattle.table.specs.Tasks.{limit_of}
 use Rattle.table.specs.declared.accesses.Access.{Access}
 use Rattle.table.specs.Accesses.{may_block, blocking, or_else, plain_access, empty_access}
@@ -24,7 +24,7 @@ use Rattle.analysis.specs.declared.costs.Single.TheVariants.{UcbUnion, EcbUnion}
 use Rattle.analysis.specs.declared.Method.{Method}
 use Rattle.analysis.specs.declared.Method.TheVariants.{Of, Combined}
 use Rattle.analysis.specs.declared.need.Need.{Need}
-use Rattle.analysis.specs.Needs.{is_sooner, need_with, larger_need, larger_of_some, largest_need, needed_of, smaller_of, need_of}
+use Rattle.analysis.specs.Needs.{is_sooner, need_with, larger_need, time_of, larger_of_some, largest_need, needed_of, smaller_of, need_of}
 
 -- what holds of what is needed under each method that counts holds of the need that is explained
 pub need-by : (P : Need → Type 0) (table : Table) (i : ℕ) (m : Method) → ((k : Single) → P (needed_of table k i)) → P (need_of table m i)
@@ -61,6 +61,28 @@ largest-next W (b ∷ l) a =
     sym (fold-append larger_need (W b) (map W (b ∷ l)) (W a ∷ []))
     ∙ ap (λ (ns : List Need). fold larger_need (W b) ns) (sym (map-append W (b ∷ l) (a ∷ [])))
     )
+
+-- one that is no larger than the largest so far may be told to be as large
+pub larger-later : (so_far : Option Need) (N : Access → Response) (m : Single) (a : Access)
+    → larger_of_some so_far (need_with (λ b. later (time_of so_far) (N b)) m a) ≡ larger_of_some so_far (need_with N m a)
+larger-later None N m a = ap told (later_first (N a))
+  where
+    told : Response → Need
+    told r = record { method = m; time = r; blocker = a }
+larger-later (Some q) N m a = go q.time (N a)
+  where
+    told : Response → Need
+    told r = record { method = m; time = r; blocker = a }
+
+    go : (t r : Response) → cond (is_sooner t (later t r)) (told (later t r)) q ≡ cond (is_sooner t r) (told r) q
+    go (Within x) (Within y) = elim (dec_le y.0 x.0) [
+      | yes l ↦ (
+          let e : max x.0 y.0 ≡ x.0 = omega arith in
+          rw (e, le-ltb x.0 x.0 (omega arith), le-ltb x.0 y.0 l) refl)
+      | no l ↦ (let e : max x.0 y.0 ≡ y.0 = omega arith in rw e refl)
+    ]
+    go (Within x) Unschedulable = refl
+    go Unschedulable r = refl
 
 -- what was found over all that may block the task
 module _ (table : Table) (m : Single) (i : ℕ) where

@@ -30,10 +30,10 @@ use Rattle.analysis.specs.declared.carried.Column.{Column}
 use Rattle.analysis.specs.declared.carried.Terms.{Terms}
 use Rattle.analysis.specs.Carried.{terms_for, Long, Ledger, Weighed, WeighedUnder}
 use Rattle.analysis.proofs.TermLaws.{has-none, joined}
-use Rattle.analysis.proofs.AnswerLaws.{latest_over, blocking-same, latest-same, latest-with, among}
-use Rattle.analysis.specs.Analysis.{least_under, answer_of, response_of, Blocks}
+use Rattle.analysis.proofs.AnswerLaws.{by_one, From, blocking-same, from-first, from-plain, from-yes, from-no, from-again, from-all}
+use Rattle.analysis.specs.Analysis.{least_under, answer_of, response_of, Blocks, OneBlocks}
 use Rattle.analysis.specs.declared.rows.Answers.{Answers}
-use Rattle.analysis.specs.Rows.{answer_in, Answered, cheaper, Rising, WithOne, row_told, plain_of, Left, row_of, OneBlocks}
+use Rattle.analysis.specs.Rows.{answer_in, Answered, cheaper, Rising, WithOne, row_told, plain_of, Left, row_of}
 
 -- ---- a cheaper method asks for no more
 
@@ -180,10 +180,6 @@ pub plain-longer : (table : Table) (i c d : ℕ) {counts : List Count} → Accep
 plain-longer table i c d accepted here h =
     started-harder c d i _ _ _ (plain-ranged table i accepted here) (λ j l. no-more-self _ (plain-ranged table i accepted here j l)) (λ j l. (refl, refl)) h
 
--- what one access answers under a method
-abbrev pub by_one : Table → ℕ → Single → Access → Response
-by_one table i m a = least_under table a m i (limit_of (at table i))
-
 -- the longest so far of the first n accesses that may block
 abbrev pub LongestOf : Table → ℕ → ℕ → ℕ → Option ℕ → Type 0
 LongestOf table i n most (Some k) = (k < n) × (may_block i (get_or table.accesses k empty_access) ≡ true)
@@ -191,7 +187,7 @@ LongestOf table i n most NoPlace = (most ≡ 0) × (blocking i (take n table.acc
 
 -- after the first n accesses, and one that was taken before: the answers over those that may block
 pub record Passed (table : Table) (i first n : ℕ) (s : Answers) : Type 0 where
-  pub over : (m : Single) → answer_in m s ≡ later (by_one table i m (get_or table.accesses first empty_access)) (latest_over (by_one table i m) i table.accesses n)
+  pub over : (m : Single) → From table i m first n (answer_in m s)
   pub rising : Rising s
 
 module _ (table : Table) (i : ℕ) (accepted : AcceptedTable table) where
@@ -201,62 +197,30 @@ module _ (table : Table) (i : ℕ) (accepted : AcceptedTable table) where
   module _ (here : i < table.count) where
     pub passed-first : (first : ℕ) {s : Answers} → WithOne table (get_or table.accesses first empty_access) i first_answers s → Passed table i first 0 s
     passed-first first w = record {
-      over = λ m. w.each m ∙ rw (first-is m) (later_first (by_one table i m (get_or table.accesses first empty_access)))
-          ∙ sym (later_last (by_one table i m (get_or table.accesses first empty_access)));
+      over = λ m. from-first table i m first (rw (first-is m) at (w.each m));
       rising = rising-next table _ i accepted here _ _ rising-first w;
     }
 
     module _ (first n : ℕ) (few : n < table.access_count) {s : Answers} (p : Passed table i first n s) where
       pub passed-yes : may_block i (get_or table.accesses n empty_access) ≡ true → {t : Answers}
           → WithOne table (get_or table.accesses n empty_access) i s t → Passed table i first (n + 1) t
-      passed-yes e {t} w = record {
-        over = λ m.
-            let A = by_one table i m in
-            let a = get_or table.accesses first empty_access in
-            w.each m ∙ ap (λ (x : Response). later x (A (get_or table.accesses n empty_access))) (p.over m)
-            ∙ later-assoc (A a) (latest_over A i table.accesses n) (A (get_or table.accesses n empty_access))
-            ∙ ap (later (A a)) (sym (latest-with A i table.accesses n (within n few) e));
+      passed-yes e w = record {
+        over = λ m. from-yes table i m accepted first n few (p.over m) e (w.each m);
         rising = rising-next table _ i accepted here _ _ p.rising w;
       }
 
       pub passed-no : may_block i (get_or table.accesses n empty_access) ≡ false → Passed table i first (n + 1) s
-      passed-no e = record {
-        over = λ m.
-            let A = by_one table i m in
-            p.over m ∙ ap (later (A (get_or table.accesses first empty_access))) (sym (latest-same A i table.accesses n (within n few) e));
-        rising = p.rising;
-      }
+      passed-no e = record { over = λ m. from-no table i m accepted first n few (p.over m) e; rising = p.rising }
 
       pub passed-again : may_block i (get_or table.accesses n empty_access) ≡ true → n ≡ first → Passed table i first (n + 1) s
-      passed-again e same = record {
-        over = λ m.
-            let A = by_one table i m in
-            let a = get_or table.accesses first empty_access in
-            let L = latest_over A i table.accesses n in
-            p.over m ∙ sym (later_again (A a) L)
-            ∙ ap (λ (k : ℕ). later (A a) (later L (A (get_or table.accesses k empty_access)))) (sym same)
-            ∙ ap (later (A a)) (sym (latest-with A i table.accesses n (within n few) e));
-        rising = p.rising;
-      }
+      passed-again e same = record { over = λ m. from-again table i m accepted first n few (p.over m) e same; rising = p.rising }
 
     pub answered-all : (first : ℕ) {s : Answers} → first < table.access_count → may_block i (get_or table.accesses first empty_access) ≡ true
         → Passed table i first table.access_count s → Answered table i s
-    unfolding answer_of
-    answered-all first h e p = record {
-      each = λ m.
-          let q = among (by_one table i m) i table.accesses first e table.access_count h (omega (arith, accepted.listed)) in
-          p.over m ∙ q.0
-          ∙ ap (λ (l : List Access). latest_of (map (by_one table i m) l)) (or_some (plain_access (at table i)) (blocking i (accesses_of table)) q.1);
-    }
+    answered-all first h e p = record { each = λ m. from-all table i m accepted first h e (p.over m) }
 
   pub answered-plain : blocking i (accesses_of table) ≡ [] → {r : Answers} → WithOne table (plain_access (at table i)) i first_answers r → Answered table i r
-  unfolding answer_of
-  answered-plain e w = record {
-    each = λ m.
-        w.each m ∙ rw (first-is m) (later_first (by_one table i m (plain_access (at table i))))
-        ∙ sym (latest-one (by_one table i m (plain_access (at table i))))
-        ∙ ap (λ (l : List Access). latest_of (map (by_one table i m) (or_else (plain_access (at table i)) l))) (sym e);
-  }
+  answered-plain e w = record { each = λ m. from-plain table i m e (rw (first-is m) at (w.each m)) }
 
 -- ---- on from the task above
 

@@ -26,6 +26,11 @@ need_with N m a = record { method = m; time = N a; blocker = a }
 abbrev pub larger_need : Need → Need → Need
 larger_need a b = if is_sooner a.time b.time then b else a
 
+-- the time of the one so far, and 0 before there is one
+abbrev pub time_of : Option Need → Response
+time_of None = Within (record { 0 = 0 })
+time_of (Some need) = need.time
+
 -- the larger of the one so far, if there is one, and another
 abbrev pub larger_of_some : Option Need → Need → Need
 larger_of_some None need = need

@@ -1,5 +1,5 @@
 -- The answers for all tasks of a table.
-use Rattle.std.specs.Prelude.{ℕ, ◌+◌, ◌≡◌, ◌<◌, true, List, [], ◌∷◌, map, replicate, length, slice_index_or, Option, Some, None as NoPlace}
+use Rattle.std.specs.Prelude.{ℕ, ◌+◌, ◌≡◌, ◌<◌, true, List, [], ◌∷◌, map, replicate, length}
 use Rattle.search.specs.declared.demand.Row.{Row}
 use Rattle.search.specs.declared.demand.Term.{Term}
 use Rattle.search.specs.declared.demand.Response.{Response}
@@ -10,8 +10,7 @@ use Rattle.search.specs.Counts.{Started}
 use Rattle.table.specs.Tasks.{own_of, limit_of}
 use Rattle.table.specs.declared.accesses.Access.{Access}
 use Rattle.table.specs.declared.Table.{Table}
-use Rattle.table.specs.Accesses.{may_block, blocking, empty_access}
-use Rattle.table.specs.Tables.{at, accesses_of}
+use Rattle.table.specs.Tables.{at}
 use Rattle.analysis.specs.declared.costs.Single.{Single}
 use Rattle.analysis.specs.declared.costs.Single.TheVariants.{None, EcbOnly, UcbOnly, UcbUnion, EcbUnion}
 use Rattle.analysis.specs.Costs.{term_with}
@@ -53,11 +52,6 @@ pub record Rising (s : Answers) : Type 0 where
 -- the later of these answers and of those while an access blocks the task at i
 pub record WithOne (table : Table) (a : Access) (i : ℕ) (s r : Answers) : Type 0 where
   pub each : (m : Single) → answer_in m r ≡ later (answer_in m s) (least_under table a m i (limit_of (at table i)))
-
--- where an access stands that may block the task at i, or that none may
-abbrev pub OneBlocks : Table → ℕ → Option ℕ → Type 0
-OneBlocks table i (Some k) = (k < table.access_count) × (may_block i (slice_index_or table.accesses k empty_access) ≡ true)
-OneBlocks table i NoPlace = blocking i (accesses_of table) ≡ []
 
 -- the row that they make, with combined
 abbrev pub row_told : Answers → List Response

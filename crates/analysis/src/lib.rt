@@ -17,13 +17,13 @@ pub mod rows;
 ghost use Rattle.std.specs.Prelude.{◌≡◌, ◌<◌, ◌≤◌, length};
 ghost use Rattle.search.specs.Demand.{demand_of};
 ghost use Rattle.search.specs.Terms.{term_in, Handed};
-ghost use Rattle.search.specs.Least.{least_of};
+ghost use Rattle.search.specs.Least.{least_of, later};
 ghost use Rattle.table.specs.Accepted.{AcceptedTable};
 ghost use Rattle.table.specs.Tables.{at};
 ghost use Rattle.table.specs.Tasks.{limit_of};
 ghost use Rattle.analysis.specs.Row.{Begun};
 ghost use Rattle.analysis.specs.BlockedRow.{ChargedUnder};
-ghost use Rattle.analysis.specs.Analysis.{least_under, answer_of, response_of, method_of, Blocks};
+ghost use Rattle.analysis.specs.Analysis.{least_under, answer_of, response_of, method_of, Blocks, OneBlocks};
 
 use crate::costs::{Charge, Single};
 use cache::units::Ticks;
@@ -56,13 +56,17 @@ impl Method {
     }
 }
 
-// The smallest time up to a limit that equals its demand, for so much work of the task's own and blocking, under the terms of those above it.
-fn by_terms(own: Ticks, terms: &[Term], limit: Ticks) -> Response
+// The later of the answer so far and the smallest time up to a limit that equals its demand, for so much work of the task's own and blocking, under the terms of
+// those above it. Where there is no answer so far, nothing is searched for.
+fn by_terms(own: Ticks, terms: &[Term], limit: Ticks, so_far: Response) -> Response
     requires { Handed own.0 terms.now limit.0 }
-    ensures { result ≡ least_of (demand_of own.0 (term_in terms.now) (length terms.now)) limit.0 }
+    ensures { result ≡ later so_far (least_of (demand_of own.0 (term_in terms.now) (length terms.now)) limit.0) }
 {
+    let Response::Within(known) = so_far else {
+        return so_far;
+    };
     let mut counts = response::firsts(terms);
-    response::least(own, terms, limit, &mut counts)
+    so_far.later(response::least_beyond(own, terms, limit, known, &mut counts))
 }
 
 // The same of the task at i while an access blocks it, by the charges with the access in `row`.
@@ -73,35 +77,59 @@ fn by_charges(
     limit: Ticks,
     row: &[Charge; 32],
     access: Access,
+    so_far: Response,
 ) -> Response
     requires { AcceptedTable table.now × (i < table.now.count) × (limit.0 ≤ 250000000) × ChargedUnder table.now access method i 0 row.now × Blocks i access }
-    ensures { result ≡ least_under table.now access method i limit.0 }
+    ensures { result ≡ later so_far (least_under table.now access method i limit.0) }
 {
     let terms = blocked_row::terms(table, i, row);
     let own = Ticks(table.task(i).work.0 + access.lasts.0);
-    by_terms(own, &terms[..i], limit)
+    by_terms(own, &terms[..i], limit, so_far)
 }
 
 // The same by the charges without the access. Nothing is copied where the access adds nothing to them.
-pub fn least_under(
+pub fn later_under(
     table: &Table,
     method: Single,
     i: usize,
     limit: Ticks,
     row: &[Charge; 32],
     access: Access,
+    so_far: Response,
 ) -> Response
     requires { AcceptedTable table.now × (i < table.now.count) × (limit.0 ≤ 250000000) × Begun table.now method i row.now × Blocks i access }
-    ensures { result ≡ least_under table.now access method i limit.0 }
+    ensures { result ≡ later so_far (least_under table.now access method i limit.0) }
 {
     match method {
-        Single::None | Single::EcbOnly => by_charges(table, method, i, limit, row, access),
+        Single::None | Single::EcbOnly => {
+            by_charges(table, method, i, limit, row, access, so_far)
+        }
         Single::UcbOnly | Single::UcbUnion | Single::EcbUnion => {
             let mut joined = *row;
             blocked_row::join(table, method, i, access, &mut joined);
-            by_charges(table, method, i, limit, &joined, access)
+            by_charges(table, method, i, limit, &joined, access, so_far)
         }
     }
+}
+
+// Where the longest access stands that may block the task at i, if any may. What is found while it blocks is likely the latest, and then no other
+// one is searched for.
+pub fn longest(table: &Table, i: usize) -> Option<usize>
+    requires { AcceptedTable table.now }
+    ensures { OneBlocks table.now i result }
+{
+    let mut found: Option<usize> = None;
+    let mut most: u64 = 0;
+    for n in 0..table.access_count {
+        let access = table.accesses[n];
+        if access.may_block(i) {
+            if most <= access.lasts.0 {
+                found = Some(n);
+                most = access.lasts.0;
+            }
+        }
+    }
+    found
 }
 
 // The latest of these answers within the task's limit over the accesses that may block it, and where none may, the answer with its B.
@@ -112,19 +140,22 @@ fn latest(table: &Table, method: Single, i: usize) -> Response
     let task = table.task(i);
     let limit = Ticks(task.deadline.0 - task.jitter.0);
     let row = one_row::charged(table, method, i);
-    let mut blocked = false;
-    let mut latest = Response::Within(Ticks(0));
+    let any = Response::Within(Ticks(0));
+    let Some(first) = longest(table, i) else {
+        let plain = accesses::plain_access(*task);
+        return later_under(table, method, i, limit, &row, plain, any);
+    };
+    let access = table.accesses[first];
+    let mut latest = later_under(table, method, i, limit, &row, access, any);
     for n in 0..table.access_count {
         let access = table.accesses[n];
         if access.may_block(i) {
-            blocked = true;
-            latest = latest.later(least_under(table, method, i, limit, &row, access));
+            if n != first {
+                latest = later_under(table, method, i, limit, &row, access, latest);
+            }
         }
     }
-    if blocked {
-        return latest;
-    }
-    least_under(table, method, i, limit, &row, accesses::plain_access(*task))
+    latest
 }
 
 // The response of the task at i: under combined the sooner of those of the two unions.

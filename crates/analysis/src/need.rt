@@ -2,10 +2,11 @@
 // that is.
 
 ghost use Rattle.std.specs.Prelude.{◌≡◌, ◌<◌};
+ghost use Rattle.search.specs.Least.{later};
 ghost use Rattle.table.specs.Accepted.{AcceptedTable};
 ghost use Rattle.analysis.specs.Row.{Begun};
 ghost use Rattle.analysis.specs.Analysis.{least_under, Blocks};
-ghost use Rattle.analysis.specs.Needs.{is_sooner, need_with, larger_need, larger_of_some, smaller_of, needed_of, need_of};
+ghost use Rattle.analysis.specs.Needs.{is_sooner, need_with, larger_need, larger_of_some, time_of, smaller_of, needed_of, need_of};
 
 use crate::costs::{Charge, Single};
 use crate::{Method, one_row};
@@ -72,15 +73,33 @@ impl Need {
     }
 }
 
-// What the task at i needs under a method while an access blocks it. `row` has the charges of the method without the access.
-fn need_while(table: &Table, method: Single, i: usize, row: &[Charge; 32], access: Access) -> Need
+// What the task at i needs under a method while an access blocks it, or the time so far where that is later. `row` has the charges of the method without the
+// access.
+fn need_while(
+    table: &Table,
+    method: Single,
+    i: usize,
+    row: &[Charge; 32],
+    access: Access,
+    so_far: Response,
+) -> Need
     requires { AcceptedTable table.now × (i < table.now.count) × Begun table.now method i row.now × Blocks i access }
-    ensures { result ≡ need_with (λ a. least_under table.now a method i 250000000) method access }
+    ensures { result ≡ need_with (λ a. later so_far (least_under table.now a method i 250000000)) method access }
 {
     Need {
         method,
-        time: crate::least_under(table, method, i, FURTHEST, row, access),
+        time: crate::later_under(table, method, i, FURTHEST, row, access, so_far),
         blocker: access,
+    }
+}
+
+// The time of the need so far; before any, none is smaller.
+fn time_of(so_far: Option<Need>) -> Response
+    ensures { result ≡ time_of so_far }
+{
+    match so_far {
+        None => Response::Within(Ticks(0)),
+        Some(need) => need.time,
     }
 }
 
@@ -94,7 +113,8 @@ fn need_under(table: &Table, method: Single, i: usize) -> Need
     for n in 0..table.access_count {
         let access = table.accesses[n];
         if access.may_block(i) {
-            largest = Some(need_while(table, method, i, &row, access).or_larger(largest));
+            let time = time_of(largest);
+            largest = Some(need_while(table, method, i, &row, access, time).or_larger(largest));
         }
     }
     match largest {
@@ -105,6 +125,7 @@ fn need_under(table: &Table, method: Single, i: usize) -> Need
             i,
             &row,
             accesses::plain_access(*table.task(i)),
+            Response::Within(Ticks(0)),
         ),
     }
 }

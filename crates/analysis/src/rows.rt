@@ -12,7 +12,7 @@ ghost use Rattle.table.specs.Tables.{at};
 ghost use Rattle.table.specs.Accepted.{AcceptedTable};
 ghost use Rattle.analysis.specs.Carried.{Ledger, Weighed, WeighedUnder};
 ghost use Rattle.analysis.specs.Analysis.{Blocks};
-ghost use Rattle.analysis.specs.Rows.{Answered, Rising, WithOne, row_told, plain_of, Left, no_row, row_of, OneBlocks};
+ghost use Rattle.analysis.specs.Rows.{Answered, Rising, WithOne, row_told, plain_of, Left, no_row, row_of};
 
 use crate::carried;
 use crate::carried::{Column, Terms};
@@ -175,25 +175,6 @@ fn under(
     by_row(table, i, access, &joined, so_far, &mut these)
 }
 
-// Where the longest access stands that may block the task at i, if any may.
-fn longest(table: &Table, i: usize) -> Option<usize>
-    requires { AcceptedTable table.now }
-    ensures { OneBlocks table.now i result }
-{
-    let mut found: Option<usize> = None;
-    let mut most: u64 = 0;
-    for n in 0..table.access_count {
-        let access = table.accesses[n];
-        if access.may_block(i) {
-            if most <= access.lasts.0 {
-                found = Some(n);
-                most = access.lasts.0;
-            }
-        }
-    }
-    found
-}
-
 // The answers for the task at i: the latest over the accesses that may block it, and where none may, those with its B. `counts` are left as by the search
 // without reloads and without an access.
 fn over_all(
@@ -218,7 +199,7 @@ fn over_all(
     let own = Ticks(task.work.0 + task.blocking.0);
     let limit = Ticks(task.deadline.0 - task.jitter.0);
     response::least(own, &terms.none[..i], limit, counts);
-    let Some(first) = longest(table, i) else {
+    let Some(first) = crate::longest(table, i) else {
         return by_row(table, i, plain, terms, Answers::FIRST, counts);
     };
     let access = table.accesses[first];

@@ -1,5 +1,6 @@
 -- `analysis::by_charges` meets its contract.
-use Rattle.std.proofs.Common.{◌∙◌}
+use Rattle.std.proofs.Common.{ap, ◌∙◌}
+use Rattle.search.specs.Least.{later}
 use Rattle.analysis.proofs.JoinLaws.{row-few}
 use Rattle.analysis.proofs.AnswerLaws.{row-handed, least-by-row}
 use Rattle.analysis.proofs.by_charges.Goals as goal
@@ -19,4 +20,4 @@ returns c =
     let a = c.args in
     let p = c.requires in
     c.by_terms.ensures
-    ∙ rw (c.terms-terms.ensures, c.task.ensures) (least-by-row a.table.now a.access a.method a.i p.0 p.1 p.4 c.requires.3 a.limit.0)
+    ∙ ap (later a.so_far) (rw (c.terms-terms.ensures, c.task.ensures) (least-by-row a.table.now a.access a.method a.i p.0 p.1 p.4 c.requires.3 a.limit.0))

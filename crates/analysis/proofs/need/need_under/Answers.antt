@@ -1,10 +1,14 @@
 -- `need::need_under` meets its contract.
-use Rattle.std.proofs.Common.{◌≡◌, ◌<◌, length, refl, sym, ap, ◌∙◌, arith}
-use Rattle.table.specs.Accesses.{plain_access}
+use Rattle.std.proofs.Common.{◌≡◌, ◌<◌, length, get_or, refl, sym, ap, ◌∙◌, arith}
+use Rattle.std.specs.Prelude.{None}
+use Rattle.search.specs.declared.demand.Response.TheVariants.{Within}
+use Rattle.search.specs.Least.{later}
+use Rattle.table.specs.Tables.{at}
+use Rattle.table.specs.Accesses.{plain_access, empty_access}
 use Rattle.analysis.specs.Analysis.{least_under}
 use Rattle.analysis.proofs.AnswerLaws.{plain-blocks, access-blocks}
 use Rattle.analysis.specs.Needs.{need_with, larger_of_some}
-use Rattle.analysis.proofs.NeedLaws.{some-needed, none-needed, needed-yes, needed-no}
+use Rattle.analysis.proofs.NeedLaws.{some-needed, none-needed, larger-later, needed-yes, needed-no}
 use Rattle.analysis.proofs.need.need_under.Goals as goal
 use Rattle.analysis.proofs.need.need_under.Goals.{then-may_block, else-may_block}
 
@@ -23,7 +27,9 @@ loop-n-preserved c =
     elim c.if-may_block.branch [
       | then-may_block w ↦ rw w.largest-is
           (needed-yes a.table.now a.method a.i c.loop-n.n here c.loop-n.invariant (sym c.may_block.ensures ∙ w.if-may_block.true) _
-          (w.or_larger.ensures ∙ ap (larger_of_some c.loop-n.largest) w.need_while.ensures))
+          (w.or_larger.ensures
+          ∙ ap (larger_of_some c.loop-n.largest) (rw w.time_of-time.ensures at w.need_while.ensures)
+          ∙ larger-later c.loop-n.largest (λ b. least_under a.table.now b a.method a.i 250000000) a.method (get_or a.table.now.accesses c.loop-n.n empty_access)))
       | else-may_block w ↦ rw w.largest-is
           (needed-no a.table.now a.method a.i c.loop-n.n here c.loop-n.invariant (sym c.may_block.ensures ∙ w.if-may_block.false))
     ]
@@ -46,5 +52,6 @@ returns-in-None c =
     let e : c.loop-n.n ≡ a.table.now.access_count = omega arith in
     let plain = c.plain_access.ensures ∙ ap plain_access c.task.ensures in
     c.need_while-in-None.ensures
-    ∙ ap (need_with (λ b. least_under a.table.now b a.method a.i 250000000) a.method) plain
+    ∙ ap (need_with (λ b. later (Within (record { 0 = 0 })) (least_under a.table.now b a.method a.i 250000000)) a.method) plain
+    ∙ larger-later None (λ b. least_under a.table.now b a.method a.i 250000000) a.method (plain_access (at a.table.now a.i))
     ∙ none-needed a.table.now a.method a.i (sym c.in-None.is ∙ rw e at c.loop-n.invariant)
