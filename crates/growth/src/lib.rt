@@ -79,7 +79,13 @@ fn demand_by_row(table: &Table, i: usize, row: &[Charge; 32], own: u64, k: u64, 
 
 // Whether there is a response within a limit. There is one where the limit is no less than the demand there, as that of most tasks is; where the limit is less
 // there may be one before it, which is searched for from `counts` on.
-fn responds(own: Ticks, terms: &[Term], limit: Ticks, counts: &mut [Count]) -> bool
+fn responds(
+    own: Ticks,
+    terms: &[Term],
+    limit: Ticks,
+    likely: &mut Ticks,
+    counts: &mut [Count],
+) -> bool
     requires { Handed own.0 terms.now limit.0 × Started own.0 (term_in terms.now) (length terms.now) counts.old }
     ensures value { result ≡ has_response (least_of (demand_of own.0 (term_in terms.now) (length terms.now)) limit.0) }
     ensures started { Started own.0 (term_in terms.now) (length terms.now) counts.new }
@@ -87,8 +93,16 @@ fn responds(own: Ticks, terms: &[Term], limit: Ticks, counts: &mut [Count]) -> b
     if demand_at(own.0, terms, limit.0) <= limit.0 {
         return true;
     }
+    if likely.0 <= limit.0 {
+        if demand_at(own.0, terms, likely.0) <= likely.0 {
+            return true;
+        }
+    }
     match response::least(own, terms, limit, counts) {
-        Response::Within(_) => true,
+        Response::Within(time) => {
+            *likely = time;
+            true
+        }
         Response::Unschedulable => false,
     }
 }
@@ -102,6 +116,7 @@ fn by_charges(
     row: &[Charge; 32],
     access: Access,
     most: u64,
+    likely: &mut Ticks,
 ) -> u64
     requires { Stretches table.now most × (i < table.now.count) × ChargedUnder table.now access method i 0 row.now × Blocks i access }
     ensures { Bounds (answers_under table.now access method i) most result }
@@ -119,7 +134,7 @@ fn by_charges(
     let terms = scaled_terms(table, i, row, most);
     let mut counts = response::firsts(&terms[..i]);
     let mut last = counts;
-    if responds(own, &terms[..i], limit, &mut last) {
+    if responds(own, &terms[..i], limit, likely, &mut last) {
         return most;
     }
     let mut low: u64 = 0;
@@ -130,7 +145,7 @@ fn by_charges(
         let terms = scaled_terms(table, i, row, middle);
         let mut next = counts;
         let own = Ticks(work.0 + access.lasts.0);
-        if responds(own, &terms[..i], limit, &mut next) {
+        if responds(own, &terms[..i], limit, likely, &mut next) {
             low = middle;
             counts = next;
         } else {
@@ -148,40 +163,42 @@ fn under(
     row: &[Charge; 32],
     access: Access,
     most: u64,
+    likely: &mut Ticks,
 ) -> u64
     requires { Stretches table.now most × (i < table.now.count) × Begun table.now method i row.now × Blocks i access }
     ensures { Bounds (answers_under table.now access method i) most result }
 {
     match method {
-        Single::None | Single::EcbOnly => by_charges(table, method, i, row, access, most),
+        Single::None | Single::EcbOnly => by_charges(table, method, i, row, access, most, likely),
         Single::UcbOnly | Single::UcbUnion | Single::EcbUnion => {
             let mut joined = *row;
             blocked_row::join(table, method, i, access, &mut joined);
-            by_charges(table, method, i, &joined, access, most)
+            by_charges(table, method, i, &joined, access, most, likely)
         }
     }
 }
 
 // The greatest k up to `most` at which the task at i has a response whichever access blocks it that may, and where none may with its B.
-fn over_blockers(table: &Table, method: Single, i: usize, most: u64) -> u64
+fn over_blockers(table: &Table, method: Single, i: usize, most: u64, likely: &mut Ticks) -> u64
     requires { Stretches table.now most × (i < table.now.count) }
     ensures { Bounds (λ k. has_response (answer_of (scaled_by k table.now) method i)) most result }
 {
     let row = one_row::charged(table, method, i);
-    let mut left = most;
-    let mut blocked = false;
+    let Some(first) = analysis::longest(table, i) else {
+        let plain = accesses::plain_access(*table.task(i));
+        return under(table, method, i, &row, plain, most, likely);
+    };
+    let access = table.accesses[first];
+    let mut left = under(table, method, i, &row, access, most, likely);
     for n in 0..table.access_count {
         let access = table.accesses[n];
         if access.may_block(i) {
-            blocked = true;
-            left = under(table, method, i, &row, access, left);
+            if n != first {
+                left = under(table, method, i, &row, access, left, likely);
+            }
         }
     }
-    if blocked {
-        return left;
-    }
-    let plain = accesses::plain_access(*table.task(i));
-    under(table, method, i, &row, plain, left)
+    left
 }
 
 fn larger(a: u64, b: u64) -> u64
@@ -191,18 +208,19 @@ fn larger(a: u64, b: u64) -> u64
 }
 
 // The greatest such k under a method. By combined a task has a response where it has one by either union.
-fn by_method(table: &Table, method: Method, i: usize, most: u64) -> u64
+fn by_method(table: &Table, method: Method, i: usize, most: u64, likely: &mut Ticks) -> u64
     requires { Stretches table.now most × (i < table.now.count) }
     ensures { Bounds (λ k. has_response (response_of (scaled_by k table.now) method i)) most result }
 {
     match method {
-        Method::Of(single) => over_blockers(table, single, i, most),
+        Method::Of(single) => over_blockers(table, single, i, most, likely),
         Method::Combined => {
-            let ecb_union = over_blockers(table, Single::EcbUnion, i, most);
+            let ecb_union = over_blockers(table, Single::EcbUnion, i, most, likely);
             if ecb_union == most {
                 return most;
             }
-            larger(ecb_union, over_blockers(table, Single::UcbUnion, i, most))
+            let ucb_union = over_blockers(table, Single::UcbUnion, i, most, likely);
+            larger(ecb_union, ucb_union)
         }
     }
 }
@@ -231,11 +249,12 @@ pub fn growth(table: &Table, method: Method) -> u64
     ensures { result ≡ growth_of method table.now }
 {
     let mut left = fits_up_to(table);
+    let mut likely = Ticks(0);
     for i in (0..table.count).rev() {
         if left == 0 {
             return 0;
         }
-        left = by_method(table, method, i, left);
+        left = by_method(table, method, i, left, &mut likely);
     }
     left
 }

@@ -1,4 +1,13 @@
-// The search for the least solution where it is slow. specs/Hasten.antt says what a turn of it knows, and specs/Rounds.antt what is known of rounds.
+// The search for the least solution where it is slow: by counts it has gone on for 16 turns. specs/Hasten.antt says what a turn of it knows, and specs/Rounds.antt
+// what is known of rounds. What is tried, in this order:
+//  1. Where the shares of the terms take the whole processor, nothing equals its demand.
+//  2. Up to 256 turns by shares (`turn_at`). The next time to try is the demand, or what the terms that are counted ask for at `r` divided by what the shares of
+//     the others leave: each of these asks for its share of any time at the least, so no solution from `r` on is before that.
+//  3. Then rounds are made once, and each turn is followed by a leap: the terms in rounds ask for their shares and for what is lacking to the end of their
+//     activations. The least of that over a whole round holds at any time; else the least over a window where `r` is, of 64 ticks and then of 256, holds up to the
+//     window's end, and is gone on to at most that end. The longer window is looked at only where the shorter one says nothing up to its end.
+// A time is left out only where it is proved that no solution is at or below it (`Reached`). Nothing has to be believed of which terms are put into which rounds, of
+// how long rounds and windows are, and of divisors: any choice gives the same answers, since `is_in` tests that a period divides its round.
 
 ghost use Rattle.std.specs.Prelude.{◌≡◌, ◌+◌, ◌≤◌, ◌<◌, length};
 ghost use Rattle.search.specs.Demand.{demand_of};
