@@ -78,7 +78,7 @@ fn demand_by_row(table: &Table, i: usize, row: &[Charge; 32], own: u64, k: u64, 
 }
 
 // Whether there is a response within a limit. There is one where the limit is no less than the demand there, as that of most tasks is; where the limit is less
-// there may be one before it, which is searched for from `counts` on.
+// there may be one before it, which is searched for from `counts` on. Where the search is slow, the time that was found last is tried: it is likely late enough.
 fn responds(
     own: Ticks,
     terms: &[Term],
@@ -93,12 +93,7 @@ fn responds(
     if demand_at(own.0, terms, limit.0) <= limit.0 {
         return true;
     }
-    if likely.0 <= limit.0 {
-        if demand_at(own.0, terms, likely.0) <= likely.0 {
-            return true;
-        }
-    }
-    match response::least(own, terms, limit, counts) {
+    match response::least_beyond(own, terms, limit, *likely, counts) {
         Response::Within(time) => {
             *likely = time;
             true
