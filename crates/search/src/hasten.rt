@@ -164,7 +164,8 @@ fn leap(
     best
 }
 
-// The iteration where it goes on for long, with the terms in rounds.
+// The iteration where it goes on for long, with the terms in rounds. The windows stand on its stack alone, so quick searches need none for them.
+#[inline(never)]
 fn by_rounds(own: u64, terms: &[Term], limit: u64, start: u64) -> Response
     requires handed { Handed own terms.now limit × (shares_of (term_in terms.now) (length terms.now) < 17179869184) }
     requires reached { Reached (demand_of own (term_in terms.now) (length terms.now)) start × (start ≤ 8600000000000000000) }

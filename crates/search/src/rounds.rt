@@ -141,6 +141,7 @@ fn windows(
 }
 
 // The windows of a round, and the least that its terms ask for beyond their shares.
+#[inline(never)]
 fn tabulate(
     terms: &[Term],
     classes: &[usize; 32],
