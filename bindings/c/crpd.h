@@ -2,7 +2,8 @@
  *
  * Every function takes every text, number and buffer, and answers one number. Below 2^32 it is the
  * answer; from 2^32 on it is a refusal, whose number and line the functions at the end take out. The
- * refusals of a text are 1 to 11, and 15 to 17 where it has access lines; 12 and 13 are those of a method
+ * refusals of a text are 1 to 11, 15 to 17 where it has access lines, and 18 where line 1 names the ways;
+ * 12 and 13 are those of a method
  * and a position, and 14 that of a buffer. docs/RULES.md says when each is given.
  *
  * No function keeps anything from one call to the next: the answer, and every byte that is written, come
@@ -19,10 +20,10 @@
 #define CRPD_REPORT_MOST 2746
 
 /* No explanation is longer. */
-#define CRPD_EXPLANATION_MOST 1317
+#define CRPD_EXPLANATION_MOST 1348
 
 /* No accepted table text is longer, access lines and all, and neither is that of a scaled table. */
-#define CRPD_TABLE_MOST 9293
+#define CRPD_TABLE_MOST 16384
 
 /* The response, in ticks, of the task at a position (from 0) under a method (0 to 5), or 0 where the
  * task is unschedulable: the largest over the accesses that may block it, if there are any. */

@@ -32,12 +32,14 @@ What they are given:
   After -- nothing is an option: so a file may be called -o.
 
 A table (fields parted by one tab):
-  K  4  1                               cache sets, block reload time
+  K  4  1                               cache sets, block reload time; then the
+                                        ways, where useful blocks are counted
   T  a  1  20  20  0  0  0  f           name, C, T, D, J, B, UCB, ECB; the
   T  b  2  40  40  0  0  3  f           order of the lines is that of priority
   A  b  a  2  3                         an access of b with ceiling a, if there
                                         is any: length, UCB (then every B is 0)
-  Times are whole ticks; UCB and ECB have a hex digit for four cache sets.
+  Times are whole ticks; UCB and ECB have a hex digit for four cache sets. Where
+  the ways are given, UCB have a count for each cache set, the highest first.
 
 Exit status:
   0  given

@@ -5,7 +5,7 @@
 use crate::excerpt;
 use crate::input::{Input, TEXT_MOST};
 use crate::spelling;
-use crate::table::{self, Field, Kind};
+use crate::table::{self, Cache, Field, Kind};
 use crpd::Refusal;
 use std::ops::Range;
 
@@ -86,7 +86,7 @@ fn in_line(lines: &[&[u8]], at: usize, number: u32) -> Option<Finding> {
     let places = table::places(line);
     match number {
         3 => Some(wrong_form(line, at)),
-        4..=7 => wrong_field(lines, at, number),
+        4..=7 | 18 => wrong_field(lines, at, number),
         8 => wrong_order(line),
         9 => wrong_name(lines, at),
         10 => Some(Finding::at(&places[0], "there are more than 32 task lines")),
@@ -125,10 +125,12 @@ fn wrong_form(line: &[u8], at: usize) -> Finding {
             Finding::at(&places[0], "a task line stands below an access line")
         }
         Some((letter, fields)) => {
-            let (wanted, found) = (fields.len(), spelling::number(places.len() as u64));
-            let start = places
-                .get(wanted)
-                .map_or(line.len(), |surplus| surplus.start);
+            let (most, found) = (fields.len(), spelling::number(places.len() as u64));
+            let start = places.get(most).map_or(line.len(), |surplus| surplus.start);
+            let wanted = match at {
+                0 => format!("{} or {most}", most - 1),
+                _ => most.to_string(),
+            };
             let words = format!("a line {letter} has {wanted} fields, and this one {found}");
             Finding::at(&(start..line.len()), words)
         }
@@ -138,23 +140,20 @@ fn wrong_form(line: &[u8], at: usize) -> Finding {
 /// The first field with a fault of its own of that number.
 fn wrong_field(lines: &[&[u8]], at: usize, number: u32) -> Option<Finding> {
     let line = lines[at];
-    let count = table::fields(lines[0])
-        .get(table::SET_COUNT)
-        .and_then(|field| table::said(field));
-    let digits = count.unwrap_or(0) / 4;
+    let cache = table::cache(lines[0]);
     let (_, fields) = form(line, at)?;
     fields
         .iter()
         .zip(table::places(line))
         .find_map(|(field, place)| {
-            let words = fault(field, &line[place.clone()], number, digits)?;
+            let words = fault(field, &line[place.clone()], number, &cache)?;
             Some(Finding::at(&place, format!("{} {words}", field.called)))
         })
 }
 
-/// What is wrong with a field by itself, if it is what the number says; fields of cache sets have
-/// so many digits.
-fn fault(field: &Field, text: &[u8], number: u32, digits: u64) -> Option<String> {
+/// What is wrong with a field by itself, if it is what the number says; line 1 says what fields of cache
+/// sets are.
+fn fault(field: &Field, text: &[u8], number: u32, cache: &Cache) -> Option<String> {
     match (&field.kind, number) {
         (Kind::Name, 4) if !table::is_name(text) => {
             Some("is not 1 to 12 of the characters a-z, 0-9 and -".to_string())
@@ -164,10 +163,10 @@ fn fault(field: &Field, text: &[u8], number: u32, digits: u64) -> Option<String>
         }
         (&Kind::Number { least, most }, 6) => out_of_range(table::said(text)?, least, most),
         (Kind::SetCount, 6) => wrong_count(table::said(text)?),
-        (Kind::Sets, 7) if !is_sets(text, digits) => Some(format!(
-            "are not {} of 0-9 and a-f",
-            spelling::counted(digits, "digit")
-        )),
+        (Kind::Sets, 7) => wrong_sets(text, cache.sets / 4),
+        (Kind::Useful, 7) if cache.ways.is_none() => wrong_sets(text, cache.sets / 4),
+        (Kind::Useful, 7) => wrong_counts(text, cache.sets),
+        (Kind::Useful, 18) => too_many(text, cache.ways?),
         _ => None,
     }
 }
@@ -183,9 +182,25 @@ fn wrong_count(count: u64) -> Option<String> {
     out_of_range(count, 4, 256).or_else(uneven)
 }
 
-fn is_sets(text: &[u8], digits: u64) -> bool {
+fn wrong_sets(text: &[u8], digits: u64) -> Option<String> {
     let digit = |byte: &u8| byte.is_ascii_digit() || (b'a'..=b'f').contains(byte);
-    text.len() as u64 == digits && text.iter().all(digit)
+    let right = text.len() as u64 == digits && text.iter().all(digit);
+    let digits = spelling::counted(digits, "digit");
+    (!right).then(|| format!("are not {digits} of 0-9 and a-f"))
+}
+
+fn wrong_counts(text: &[u8], digits: u64) -> Option<String> {
+    let right = text.len() as u64 == digits && text.iter().all(u8::is_ascii_digit);
+    let digits = spelling::counted(digits, "digit");
+    (!right).then(|| format!("are not {digits} of 0-9, one for each cache set"))
+}
+
+fn too_many(text: &[u8], ways: u64) -> Option<String> {
+    let above = text
+        .iter()
+        .any(|byte| ways < u64::from(byte.saturating_sub(b'0')));
+    let ways = spelling::counted(ways, "way");
+    above.then(|| format!("have a count above the {ways} of a cache set"))
 }
 
 fn wrong_order(line: &[u8]) -> Option<Finding> {

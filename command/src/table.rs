@@ -8,6 +8,9 @@ pub const SUFFIX: &[u8] = b".table";
 /// How the name of its report's file ends.
 pub const REPORT_SUFFIX: &[u8] = b".report";
 
+/// A cache set has no more ways.
+const WAYS_MOST: u64 = 8;
+
 /// No time of a table is longer, in ticks.
 pub const TICKS_MOST: u64 = 250_000_000;
 
@@ -22,7 +25,10 @@ pub enum Kind {
     },
     /// how many cache sets there are: a number in its range, and a multiple of 4
     SetCount,
+    /// hex digits of cache sets
     Sets,
+    /// the same, or where line 1 names the ways, a digit for each cache set
+    Useful,
 }
 
 /// A field of a line: what people call it, and what it has to be.
@@ -41,11 +47,12 @@ const fn number(called: &'static str, least: u64, most: u64) -> Field {
 
 const LETTER: Field = field("the letter", Kind::Letter);
 
-/// The fields of line 1.
-pub const CACHE_LINE: [Field; 3] = [
+/// The fields of line 1. The last may be left out.
+pub const CACHE_LINE: [Field; 4] = [
     LETTER,
     field("the number of cache sets", Kind::SetCount),
     number("the block reload time", 0, 100_000),
+    number("the number of ways", 1, WAYS_MOST),
 ];
 
 /// The fields of a task line.
@@ -57,7 +64,7 @@ pub const TASK_LINE: [Field; 9] = [
     number("the deadline", 1, TICKS_MOST),
     number("the jitter", 0, TICKS_MOST),
     number("the blocking", 0, TICKS_MOST),
-    field("the useful cache sets", Kind::Sets),
+    field("the useful cache sets", Kind::Useful),
     field("the evicting cache sets", Kind::Sets),
 ];
 
@@ -67,12 +74,13 @@ pub const ACCESS_LINE: [Field; 5] = [
     field("the name of the task", Kind::Name),
     field("the name of the ceiling", Kind::Name),
     number("the length", 1, TICKS_MOST),
-    field("the useful cache sets", Kind::Sets),
+    field("the useful cache sets", Kind::Useful),
 ];
 
 // Places of line 1.
-pub const SET_COUNT: usize = 1;
+const SET_COUNT: usize = 1;
 const RELOAD_TIME: usize = 2;
+const WAYS: usize = 3;
 
 // Places of a task line.
 pub const NAME: usize = 1;
@@ -123,6 +131,23 @@ pub fn said(field: &[u8]) -> Option<u64> {
             .iter()
             .fold(0, |number, digit| number * 10 + u64::from(digit - b'0'))
     })
+}
+
+/// What line 1 says of the fields of cache sets below it.
+pub struct Cache {
+    pub sets: u64,
+    /// where they are named, and useful blocks are counted
+    pub ways: Option<u64>,
+}
+
+/// What line 1 of a text says, with 0 for what is no number.
+pub fn cache(line: &[u8]) -> Cache {
+    let fields = fields(line);
+    let number = |place: usize| fields.get(place).map(|field| said(field).unwrap_or(0));
+    Cache {
+        sets: number(SET_COUNT).unwrap_or(0),
+        ways: number(WAYS),
+    }
 }
 
 /// Whether a field is a name.

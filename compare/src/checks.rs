@@ -10,7 +10,7 @@ use crate::model::value::{Value, NUMBERS};
 use crate::model::{fitting, Error, Explanation, Explanations, Outcome, Refusal, Writing, METHODS};
 
 /// Room for every report, every explanation, every table and every refusal line.
-const ROOMY: usize = 9_400;
+const ROOMY: usize = 16_500;
 
 /// Bytes on either side of a buffer that have to stay as they are.
 const GUARD: usize = 64;

@@ -2,6 +2,7 @@
 
 mod access_reasons;
 mod accesses;
+mod counted;
 mod explained;
 mod growths;
 mod pool;
@@ -52,11 +53,13 @@ const OF_TASK: [OfTask; 19] = [
     ("J 250,000,000", |task| task.jitter == 250_000_000),
     ("B 0", |task| task.blocking == 0),
     ("B 250,000,000", |task| task.blocking == 250_000_000),
-    ("UCB empty", |task| task.useful.is_empty()),
+    ("UCB empty", |task| {
+        task.useful.iter().all(|count| *count == 0)
+    }),
     ("ECB empty", |task| task.evicting.is_empty()),
     ("UCB not inside ECB", |task| {
-        let outside = |set| !task.evicting.contains(set);
-        task.useful.iter().any(outside)
+        let outside = |set: usize| !task.evicting.contains(&set);
+        (0..task.useful.len()).any(|set| task.useful[set] > 0 && outside(set))
     }),
 ];
 
@@ -119,7 +122,7 @@ impl Classes {
     /// With every class that has to be reached, besides the plans of spoiled texts.
     pub fn new() -> Classes {
         let mut classes = Classes::default();
-        for number in (1..=17).chain([25]) {
+        for number in (1..=18).chain([25]) {
             classes.require(&refusal_name(number));
         }
         let names = OF_ASKING.into_iter().chain(OF_WRITING);
@@ -130,6 +133,7 @@ impl Classes {
         }
         let further = [
             accesses::all(),
+            counted::all(),
             explained::all(),
             values::all(),
             growths::all(),
@@ -166,8 +170,12 @@ impl Classes {
         for (name, holds) in OF_ROW {
             self.reach_if(name, rows.iter().any(holds));
         }
-        for name in accesses::reached_by_table(table) {
-            self.reach(&name);
+        let further = [
+            accesses::reached_by_table(table),
+            counted::reached_by_table(table),
+        ];
+        for name in further.iter().flatten() {
+            self.reach(name);
         }
     }
 

@@ -7,20 +7,28 @@ mod fields;
 pub use altered::{about_longest, altered};
 
 use crate::generate::{text_of, Lines, Table, BASES};
-use crate::model::{Refusal, TASKS_MOST, TEXT_MOST};
+use crate::model::{Form, Refusal, ACCESSES_MOST, TASKS_MOST, TEXT_MOST};
 use crate::random::Random;
 use accesses::AccessPlan;
 use fields::spoil_fields;
 
-/// The refusals of a line by what stands in it.
+/// The refusals of a line by what stands in it, in the order in which they are looked for.
 const OF_FIRST_LINE: [u64; 3] = [3, 5, 6];
-const OF_TASK_LINE: [u64; 7] = [3, 4, 5, 6, 7, 8, 9];
+const OF_TASK_LINE: [u64; 8] = [3, 4, 5, 6, 7, 18, 8, 9];
+
+/// More lines than a text may have that is spoiled by its number of lines.
+const MANY_TASKS: usize = 60;
+const MANY_ACCESSES: usize = ACCESSES_MOST + 10;
 
 /// How a text is spoiled. Where two refusals have their reason, the order decides.
 #[derive(Clone, Copy)]
 pub enum Plan {
     Alone(u64),
     OnFirstLine(u64),
+    /// So many ways, which is out of range.
+    Ways(u64),
+    /// So many fields on line 1.
+    FieldsOfFirstLine(usize),
     /// Two reasons on line 1.
     PairOnFirstLine(u64, u64),
     /// Two reasons on one task line.
@@ -51,9 +59,11 @@ pub struct Spoiled {
 }
 
 pub fn plans() -> Vec<Plan> {
-    let mut plans: Vec<Plan> = (1..=11).map(Plan::Alone).collect();
+    let mut plans: Vec<Plan> = (1..=11).chain([18]).map(Plan::Alone).collect();
     plans.push(Plan::LongAndUnended);
-    for kind in 3..=11 {
+    plans.extend([0, 9, 10].map(Plan::Ways));
+    plans.extend([1, 2, 5, 6].map(Plan::FieldsOfFirstLine));
+    for kind in (3..=11).chain([18]) {
         plans.push(Plan::WholeText(1, kind));
         plans.push(Plan::WholeText(2, kind));
     }
@@ -88,6 +98,8 @@ impl Plan {
         match self {
             Plan::Alone(kind) => format!("{kind} alone"),
             Plan::OnFirstLine(kind) => format!("{kind} on line 1"),
+            Plan::Ways(ways) => format!("6 for {ways} ways"),
+            Plan::FieldsOfFirstLine(count) => format!("3 for {count} fields on line 1"),
             Plan::PairOnFirstLine(one, other) => format!("{one} and {other} on line 1"),
             Plan::Pair(one, other) => format!("{one} and {other} on one task line"),
             Plan::FirstThenTask(one, other) => format!("{one} on line 1, {other} below"),
@@ -101,14 +113,48 @@ impl Plan {
         }
     }
 
+    /// Whether it has to be a table with counts.
+    fn needs_counts(self) -> bool {
+        match self {
+            Plan::Ways(_) => true,
+            Plan::Alone(one) | Plan::TooMany(one) | Plan::BeforeTooMany(one) => one == 18,
+            Plan::Pair(one, other) | Plan::TaskThenTask(one, other) => [one, other].contains(&18),
+            Plan::FirstThenTask(_, other) | Plan::WholeText(_, other) => other == 18,
+            Plan::OfAccesses(plan) => plan.needs_counts(),
+            _ => false,
+        }
+    }
+
+    /// Whether lines are added to the text until there are too many.
+    fn adds_lines(self) -> bool {
+        match self {
+            Plan::Alone(kind) | Plan::WholeText(_, kind) => kind == 10,
+            Plan::TooMany(_) | Plan::BeforeTooMany(_) => true,
+            Plan::OfAccesses(plan) => plan.adds_lines(),
+            _ => false,
+        }
+    }
+
     pub fn spoil(self, random: &mut Random) -> Spoiled {
-        let mut draft = match self {
-            Plan::OfAccesses(_) => Draft::with_accesses(random),
-            _ => Draft::new(random),
-        };
+        let needs_accesses = matches!(self, Plan::OfAccesses(_));
+        let mut draft = Draft::of_table(random, |table| {
+            let many = table.has_room_for(MANY_TASKS, MANY_ACCESSES);
+            table.tasks.len() >= 3
+                && !(needs_accesses && table.accesses.is_empty())
+                && !(self.needs_counts() && table.form == Form::Hex)
+                && !(self.adds_lines() && table.form != Form::Hex && !many)
+        });
         let refusal = match self {
             Plan::Alone(kind) => draft.alone(random, kind),
             Plan::OnFirstLine(kind) => draft.line(random, 1, &[kind]),
+            Plan::Ways(ways) => {
+                draft.lines[0][3] = ways.to_string().into_bytes();
+                Refusal::new(6, 1)
+            }
+            Plan::FieldsOfFirstLine(count) => {
+                draft.lines[0].resize(count, b"1".to_vec());
+                Refusal::new(3, 1)
+            }
             Plan::PairOnFirstLine(one, other) => draft.line(random, 1, &[one, other]),
             Plan::Pair(one, other) => {
                 let line = draft.any_line(random);
@@ -162,25 +208,14 @@ struct Draft {
     lines: Lines,
     /// How many task lines there are.
     tasks: usize,
+    form: Form,
     too_long_by: Option<u64>,
     unended: bool,
     emptied: bool,
 }
 
 impl Draft {
-    /// With at least three task lines.
-    fn new(random: &mut Random) -> Draft {
-        Draft::of_table(random, |table| table.tasks.len() >= 3)
-    }
-
-    /// With at least one access line as well.
-    fn with_accesses(random: &mut Random) -> Draft {
-        Draft::of_table(random, |table| {
-            table.tasks.len() >= 3 && !table.accesses.is_empty()
-        })
-    }
-
-    fn of_table(random: &mut Random, is_wanted: fn(&Table) -> bool) -> Draft {
+    fn of_table(random: &mut Random, is_wanted: impl Fn(&Table) -> bool) -> Draft {
         let table = loop {
             let base = random.pick(&BASES);
             let table = base(random);
@@ -191,6 +226,7 @@ impl Draft {
         Draft {
             lines: table.lines(),
             tasks: table.tasks.len(),
+            form: table.form,
             too_long_by: None,
             unended: false,
             emptied: false,
@@ -236,7 +272,7 @@ impl Draft {
             }
             1 | 2 => self.whole(random, kind),
             10 => {
-                let tasks = random.between(33, 60) as usize;
+                let tasks = random.between(33, MANY_TASKS as u64) as usize;
                 self.fill_up(random, tasks);
                 Refusal::new(10, 34)
             }
@@ -269,8 +305,8 @@ impl Draft {
         } else {
             self.line_kept(random, line, kinds);
         }
-        let least = kinds.iter().copied().min().unwrap_or(0);
-        Refusal::new(least, line as u64)
+        let first = OF_TASK_LINE.iter().find(|kind| kinds.contains(kind));
+        Refusal::new(first.copied().unwrap_or(0), line as u64)
     }
 
     /// The same, but the first field stays, whatever the reason.
@@ -278,9 +314,12 @@ impl Draft {
         let earlier = self.lines[1.min(line - 1)..line - 1].to_vec();
         let fields = &mut self.lines[line - 1];
         let mut free: Vec<usize> = (1..fields.len()).collect();
+        if kinds.contains(&18) {
+            fields::raise_count(random, &mut fields[7], kinds.contains(&7));
+        }
         for kind in [8, 9, 4, 5, 6, 7, 3] {
             if kinds.contains(&kind) {
-                spoil_fields(random, fields, &mut free, kind, &earlier);
+                spoil_fields(random, fields, &mut free, kind, &earlier, self.form);
             }
         }
     }

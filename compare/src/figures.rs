@@ -1,7 +1,10 @@
 //! The worked figures of the rules, and the values they give.
 
 mod accesses;
+mod counted;
 mod growths;
+
+pub use counted::{longest_explanation as longest_counted_explanation, longest_with_counts};
 
 use crate::library;
 use crate::model::{Outcome, Refusal};
@@ -29,7 +32,7 @@ pub enum Expected {
 }
 
 /// Room for every report, every explanation and every table.
-const ROOMY: usize = 9_400;
+const ROOMY: usize = 16_500;
 
 pub struct Figure {
     pub name: &'static str,
@@ -154,7 +157,7 @@ pub fn longest_report() -> Vec<u8> {
     text(&spelled)
 }
 
-/// The longest explanation there is, of the last task by method 2 or 4: its C, its B and the
+/// The longest explanation there is in hex, of the last task by method 2 or 4: its C, its B and the
 /// activations have as many digits as numbers that add up to 250,000,000 can have together.
 pub fn longest_explanation() -> Vec<u8> {
     let all = "f".repeat(64);
@@ -169,7 +172,7 @@ pub fn longest_explanation() -> Vec<u8> {
     text(&spelled)
 }
 
-/// The longest accepted text without accesses: every name of 12 bytes, every number as long as it may be,
+/// The longest accepted text in hex without accesses: every name of 12 bytes, every number as long as it may be,
 /// and every cache set with a digit.
 pub fn longest_table() -> Vec<u8> {
     let (useful, evicting) = ("9".repeat(64), "0123456789abcdef".repeat(4));
@@ -182,7 +185,7 @@ pub fn longest_table() -> Vec<u8> {
     text(&spelled)
 }
 
-/// The longest accepted text there is: as many accesses as there may be, which take B from the tasks.
+/// The longest accepted text in hex: as many accesses as there may be, which take B from the tasks.
 pub fn longest_with_accesses() -> Vec<u8> {
     let tasks = String::from_utf8_lossy(&longest_table()).into_owned();
     let mut spelled = tasks.replace("\t100000000\t100000000\t", "\t100000000\t0\t");
@@ -209,6 +212,7 @@ pub fn all() -> Vec<Figure> {
     figures.extend(tables());
     figures.extend(refusals());
     figures.extend(accesses::all());
+    figures.extend(counted::all());
     figures.extend(growths::all());
     figures
 }
@@ -297,7 +301,7 @@ fn explanations() -> Vec<Figure> {
     };
     let mut figures: Vec<Figure> = rows.into_iter().map(explained).collect();
     figures.push(Figure {
-        name: "the longest explanation",
+        name: "the longest explanation in hex",
         text: longest_explanation(),
         expected: Expected::ExplanationLength(4, 31, 1_317),
     });
@@ -315,8 +319,12 @@ fn tables() -> Vec<Figure> {
         comes_back("B comes back", text(B), 66),
         comes_back("M comes back", text(M), 72),
         comes_back("P comes back", text(P), 42),
-        comes_back("no access and the longest", longest_table(), 6_253),
-        comes_back("the longest table", longest_with_accesses(), 9_293),
+        comes_back(
+            "the longest in hex without accesses",
+            longest_table(),
+            6_253,
+        ),
+        comes_back("the longest in hex", longest_with_accesses(), 9_293),
     ]
 }
 

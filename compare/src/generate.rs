@@ -13,12 +13,18 @@ pub use families::{
     crossed, edges, full, largest, loaded, near_end, near_limit, shared, small, unions, Family,
     BASES,
 };
-pub use growing::{by_either_union, finely_in_time, just_in_time, nearly_refused};
-pub use measuring::{any_cache_sets, measuring_evicting, measuring_useful};
+pub use growing::{
+    by_either_union, finely_in_time, just_in_time, longest_counted, nearly_refused, nearly_too_long,
+};
+pub use measuring::{
+    any_cache_sets, any_counts, measuring_counted, measuring_evicting, measuring_useful,
+};
 pub use published::{
-    hardly_a_tick_left, hardly_a_tick_left_if_blocked, no_tick_left, published, share_as_published,
+    count_as_published, hardly_a_tick_left, hardly_a_tick_left_if_blocked, no_tick_left, published,
+    share_as_published,
 };
 
+use crate::model::{Form, TEXT_MOST, WAYS_MOST};
 use crate::random::Random;
 
 pub const TIME_MOST: u64 = 250_000_000;
@@ -31,6 +37,7 @@ pub type Lines = Vec<Vec<Vec<u8>>>;
 pub struct Table {
     pub sets: usize,
     pub reload_time: u64,
+    pub form: Form,
     pub tasks: Vec<Task>,
     pub accesses: Vec<Access>,
 }
@@ -41,7 +48,8 @@ pub struct Access {
     pub task: usize,
     pub ceiling: usize,
     pub length: u64,
-    pub useful: Vec<bool>,
+    /// By cache set.
+    pub useful: Vec<usize>,
 }
 
 #[derive(Clone)]
@@ -52,15 +60,20 @@ pub struct Task {
     pub deadline: u64,
     pub jitter: u64,
     pub blocking: u64,
-    pub useful: Vec<bool>,
+    /// By cache set.
+    pub useful: Vec<usize>,
     pub evicting: Vec<bool>,
 }
 
 impl Table {
     pub fn text(&self) -> Vec<u8> {
-        let mut text = format!("K\t{}\t{}\n", self.sets, self.reload_time);
+        let mut text = format!("K\t{}\t{}", self.sets, self.reload_time);
+        if let Form::Counted(ways) = self.form {
+            text.push_str(&format!("\t{ways}"));
+        }
+        text.push('\n');
         for task in &self.tasks {
-            text.push_str(&task.line());
+            text.push_str(&task.line(self.form));
         }
         for access in &self.accesses {
             text.push_str(&format!(
@@ -68,10 +81,30 @@ impl Table {
                 self.tasks[access.task].name,
                 self.tasks[access.ceiling].name,
                 access.length,
-                hex(&access.useful)
+                spelled(&access.useful, self.form)
             ));
         }
         text.into_bytes()
+    }
+
+    /// No text with so many lines of this table's form is longer, whatever the names and numbers.
+    pub fn length_most(&self, tasks: usize, accesses: usize) -> usize {
+        let useful = match self.form {
+            Form::Hex => self.sets / 4,
+            Form::Counted(_) => self.sets,
+        };
+        let task = "T\tlongest-name\t\t\n".len() + 50 + useful + self.sets / 4;
+        let access = "A\tlongest-name\tlongest-name\t250000000\t\n".len() + useful;
+        "K\t256\t100000\t8\n".len() + tasks * task + accesses * access
+    }
+
+    /// Whether it may have so many lines for certain.
+    pub fn has_room_for(&self, tasks: usize, accesses: usize) -> bool {
+        self.length_most(tasks, accesses) + 100 <= TEXT_MOST
+    }
+
+    pub fn ways(&self) -> usize {
+        self.form.ways()
     }
 
     pub fn lines(&self) -> Lines {
@@ -86,7 +119,7 @@ impl Table {
 }
 
 impl Task {
-    fn line(&self) -> String {
+    fn line(&self, form: Form) -> String {
         format!(
             "T\t{}\t{}\t{}\t{}\t{}\t{}\t{}\t{}\n",
             self.name,
@@ -95,7 +128,7 @@ impl Task {
             self.deadline,
             self.jitter,
             self.blocking,
-            hex(&self.useful),
+            spelled(&self.useful, form),
             hex(&self.evicting)
         )
     }
@@ -108,6 +141,19 @@ pub fn text_of(lines: &Lines) -> Vec<u8> {
         text.push(b'\n');
     }
     text
+}
+
+fn spelled(counts: &[usize], form: Form) -> String {
+    match form {
+        Form::Hex => {
+            let marks: Vec<bool> = counts.iter().map(|count| *count > 0).collect();
+            hex(&marks)
+        }
+        Form::Counted(_) => {
+            let digit = |count: &usize| char::from(b"0123456789"[*count]);
+            counts.iter().rev().map(digit).collect()
+        }
+    }
 }
 
 fn hex(sets: &[bool]) -> String {
@@ -175,6 +221,31 @@ fn any_block(random: &mut Random, sets: usize) -> Vec<bool> {
     block(sets, start, length)
 }
 
+/// Hex and counts are about as likely.
+fn any_form(random: &mut Random) -> Form {
+    if random.chance(50) {
+        return Form::Hex;
+    }
+    let any = random.between(1, WAYS_MOST);
+    Form::Counted(*random.pick(&[1, 2, any, any, any, WAYS_MOST]))
+}
+
+/// A useful block for each mark, or some.
+fn count(random: &mut Random, form: Form, marks: Vec<bool>) -> Vec<usize> {
+    let ways = form.ways() as u64;
+    let any = random.between(1, ways);
+    let (least, most) = *random.pick(&[(1, 1), (any, any), (1, any), (1, ways), (any, ways)]);
+    let counts = marks.into_iter().map(|mark| match mark {
+        true => random.between(least, most) as usize,
+        false => 0,
+    });
+    counts.collect()
+}
+
+fn ones(marks: Vec<bool>) -> Vec<usize> {
+    marks.into_iter().map(usize::from).collect()
+}
+
 /// Draws the cache sets of every task, in one manner for the whole table.
 fn draw_cache(random: &mut Random, table: &mut Table) {
     const DENSITIES: [u64; 6] = [0, 10, 30, 60, 90, 100];
@@ -182,13 +253,14 @@ fn draw_cache(random: &mut Random, table: &mut Table) {
     let useful = *random.pick(&DENSITIES);
     let evicting = *random.pick(&DENSITIES);
     for task in &mut table.tasks {
-        if in_blocks {
-            task.useful = any_block(random, table.sets);
+        let useful = if in_blocks {
             task.evicting = any_block(random, table.sets);
+            any_block(random, table.sets)
         } else {
-            task.useful = scattered(random, table.sets, useful);
             task.evicting = scattered(random, table.sets, evicting);
-        }
+            scattered(random, table.sets, useful)
+        };
+        task.useful = count(random, table.form, useful);
     }
 }
 
@@ -232,10 +304,12 @@ fn with_load(
             evicting: Vec::new(),
         }
     });
+    let tasks = tasks.collect();
     let mut table = Table {
         sets,
         reload_time,
-        tasks: tasks.collect(),
+        form: any_form(random),
+        tasks,
         accesses: Vec::new(),
     };
     draw_cache(random, &mut table);
@@ -271,6 +345,7 @@ mod tests {
                 finely_in_time(&mut random),
                 nearly_refused(&mut random),
                 by_either_union(&mut random),
+                nearly_too_long(&mut random),
                 edges(&mut random, TIME_MOST),
                 edges(&mut random, 1_000),
                 full(&mut random, 1_000),

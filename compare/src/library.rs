@@ -80,6 +80,25 @@ mod linked {
 }
 
 /// The writing of any table value, which no text need give.
+///
+/// A value is a list of 2,821 numbers; what follows in a longer list is not looked at, and of a shorter
+/// one 0 is returned and nothing written. It has, in this order:
+///
+/// - the number of cache sets, the block reload time, the form and the number of tasks. The form is 0
+///   where line 1 has three fields, and the number of ways where it has four;
+/// - 32 places of tasks, of 53 numbers each: the 12 bytes of the name, filled up with zeros, then
+///   C, T, D, J and B, then the 32 words of the UCB and the 4 words of the ECB;
+/// - the number of accesses;
+/// - 32 places of accesses, of 35 numbers each: the positions of the task and of the ceiling, the length,
+///   and the 32 words of the UCB.
+///
+/// Four words are some of the cache sets, where set s is bit s % 64 of word s / 64. The 32 words of a UCB are
+/// eight levels of four words, level 0 first. Level l has the sets with more than l useful blocks: a set
+/// with three is in the levels 0, 1 and 2, and in no other. So a UCB in hex is in level 0 alone, and with w
+/// ways the levels from w on are empty.
+///
+/// A set in a level and not in the one below, one in a level from the ways on, and a text that would have
+/// more than 16,384 bytes are reasons for 25, as everything else is that no accepted text gives.
 #[cfg(feature = "values")]
 mod values {
     #[link(name = "values", kind = "static")]

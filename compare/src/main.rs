@@ -161,12 +161,16 @@ impl Comparison {
             (1_000, &|random| generate::edges(random, longest)),
             (200, &|random| generate::full(random, longest)),
             (30, &generate::largest),
+            (30, &generate::longest_counted),
+            (20, &generate::nearly_too_long),
         ]);
         let mut worst = vec![
             figures::longest_report(),
             figures::longest_explanation(),
             figures::longest_table(),
             figures::longest_with_accesses(),
+            figures::longest_with_counts(),
+            figures::longest_counted_explanation(),
         ];
         if self.options.error.is_none() {
             worst.extend(hard_texts(longest));

@@ -1,6 +1,7 @@
 //! A good plain version, written for speed: what the proved code is timed against, and what stands
 //! in for it where it is not linked.
 
+mod blocks;
 mod explain;
 mod growth;
 mod reading;
@@ -11,14 +12,13 @@ pub use growth::{growth, scaled};
 pub use reading::read;
 pub use table::{rewrite, spell, write_value};
 
+use blocks::{Blocks, Counted, Counts, Marked, Words};
 use std::io::Write;
 
 const TASKS_MOST: usize = 32;
 const ACCESSES_MOST: usize = 32;
 const REPORT_MOST: usize = 2_746;
 const METHODS: usize = 6;
-
-type Words = [u64; 4];
 
 /// C, T, D, J and B.
 type Times = [u64; 5];
@@ -37,6 +37,7 @@ struct Task {
     deadline: u64,
     jitter: u64,
     blocking: u64,
+    /// Of a table in hex.
     useful: Words,
     evicting: Words,
 }
@@ -73,7 +74,10 @@ struct Access {
     task: usize,
     ceiling: usize,
     length: u64,
+    /// Of a table in hex.
     useful: Words,
+    /// Where its counts stand among those of the table.
+    counts: usize,
 }
 
 impl Access {
@@ -85,8 +89,12 @@ impl Access {
 pub struct Table {
     sets: usize,
     reload_time: u64,
+    /// The ways of a table with counts; 0 of one in hex.
+    ways: u8,
     tasks: Vec<Task>,
     accesses: Vec<Access>,
+    /// The useful blocks of the tasks and then of the accesses; nothing of a table in hex.
+    counts: Vec<Counts>,
 }
 
 impl Table {
@@ -177,22 +185,29 @@ fn code((number, line): Refused) -> u64 {
 // ---- answering
 
 pub fn answers(table: &Table, turns: &mut Turns) -> Answers {
+    match table.ways {
+        0 => rows(table, &Marked(table), turns),
+        ways => rows(table, &Counted::new(table, ways), turns),
+    }
+}
+
+fn rows(table: &Table, blocks: &impl Blocks, turns: &mut Turns) -> Answers {
     (0..table.tasks.len())
-        .map(|i| row(table, i, turns))
+        .map(|i| row(table, blocks, i, turns))
         .collect()
 }
 
 /// For each access a number that the response with it is not below.
 type Starts = [u64; ACCESSES_MOST];
 
-fn row(table: &Table, i: usize, turns: &mut Turns) -> [u64; METHODS] {
+fn row(table: &Table, blocks: &impl Blocks, i: usize, turns: &mut Turns) -> [u64; METHODS] {
     let mut row = [0; METHODS];
     // without costs the demand is least, so each other response is at least this one
     let mut starts = [0; ACCESSES_MOST];
-    row[0] = respond(table, i, 0, &mut starts, turns);
+    row[0] = respond(table, blocks, i, 0, &mut starts, turns);
     if row[0] != 0 {
         for (method, answer) in row.iter_mut().enumerate().take(5).skip(1) {
-            *answer = respond(table, i, method, &mut starts, turns);
+            *answer = respond(table, blocks, i, method, &mut starts, turns);
         }
         row[5] = combined(row[3], row[4]);
     }
@@ -200,7 +215,20 @@ fn row(table: &Table, i: usize, turns: &mut Turns) -> [u64; METHODS] {
 }
 
 fn single(table: &Table, method: usize, i: usize, turns: &mut Turns) -> u64 {
-    let mut respond = |method| respond(table, i, method, &mut [0; ACCESSES_MOST], turns);
+    match table.ways {
+        0 => single_of(table, &Marked(table), method, i, turns),
+        ways => single_of(table, &Counted::new(table, ways), method, i, turns),
+    }
+}
+
+fn single_of(
+    table: &Table,
+    blocks: &impl Blocks,
+    method: usize,
+    i: usize,
+    turns: &mut Turns,
+) -> u64 {
+    let mut respond = |method| respond(table, blocks, i, method, &mut [0; ACCESSES_MOST], turns);
     if method < 5 {
         return respond(method);
     }
@@ -219,12 +247,19 @@ fn combined(one: u64, other: u64) -> u64 {
 
 /// The response of `i` by one of the methods 0 to 4, 0 for none: the largest over the accesses that
 /// may block it, or the one with its B. Method 0 leaves its responses as starts for the others.
-fn respond(table: &Table, i: usize, method: usize, starts: &mut Starts, turns: &mut Turns) -> u64 {
+fn respond(
+    table: &Table,
+    blocks: &impl Blocks,
+    i: usize,
+    method: usize,
+    starts: &mut Starts,
+    turns: &mut Turns,
+) -> u64 {
     let task = &table.tasks[i];
     let limit = task.deadline - task.jitter;
     let mut reloads = [0; TASKS_MOST];
     for (j, reloads) in reloads.iter_mut().enumerate().take(i) {
-        *reloads = reload_count(table, method, i, j);
+        *reloads = reload_count(blocks, method, i, j);
     }
     let mut search_from = |own: u64, reloads: &[u32; TASKS_MOST], start: &mut u64| {
         let each = costs(table, i, reloads);
@@ -238,7 +273,7 @@ fn respond(table: &Table, i: usize, method: usize, starts: &mut Starts, turns: &
     for (access, start) in table.accesses.iter().zip(&mut *starts) {
         if access.may_block(i) {
             let own = task.execution + access.length;
-            let reloads = with_access(table, method, i, access, reloads);
+            let reloads = with_access(blocks, method, i, access, reloads);
             let response = search_from(own, &reloads, start);
             if response == 0 {
                 return 0;
@@ -287,78 +322,72 @@ fn search(
     0
 }
 
-fn reload_count(table: &Table, method: usize, i: usize, j: usize) -> u32 {
-    let affected = &table.tasks[j + 1..=i];
+fn reload_count(blocks: &impl Blocks, method: usize, i: usize, j: usize) -> u32 {
+    let affected = j + 1..=i;
     match method {
         0 => 0,
-        1 => size(table.tasks[j].evicting),
+        1 => blocks.evicted(j),
         2 => {
-            let sizes = affected.iter().map(|task| size(task.useful));
+            let sizes = affected.map(|task| blocks.size(blocks.useful(task)));
             sizes.max().unwrap_or(0)
         }
         3 => {
-            let all = affected.iter().map(|task| task.useful).fold([0; 4], union);
-            size(intersection(all, table.tasks[j].evicting))
+            let each = affected.map(|task| blocks.useful(task));
+            let all = together(blocks, each);
+            blocks.lost(all, blocks.evicting(j))
         }
         _ => {
-            let above = table.tasks[..=j].iter().map(|task| task.evicting);
-            let all = above.fold([0; 4], union);
-            let sizes = affected
-                .iter()
-                .map(|task| size(intersection(task.useful, all)));
+            let all = union(blocks, (0..=j).map(|task| blocks.evicting(task)));
+            let sizes = affected.map(|task| blocks.lost(blocks.useful(task), all));
             sizes.max().unwrap_or(0)
         }
     }
 }
 
+fn together<B: Blocks>(blocks: &B, each: impl Iterator<Item = B::Useful>) -> B::Useful {
+    each.fold(B::NOTHING_USEFUL, |all, one| blocks.together(all, one))
+}
+
+fn union<B: Blocks>(blocks: &B, each: impl Iterator<Item = B::Evicting>) -> B::Evicting {
+    each.fold(B::NOTHING_EVICTING, |all, one| blocks.union(all, one))
+}
+
 /// The counts with an access that may block `i` among those whom the tasks above its ceiling affect.
 /// The unions are carried along: up from `i` in method 3, down to the ceiling in method 4.
-fn with_access(
-    table: &Table,
+fn with_access<B: Blocks>(
+    blocks: &B,
     method: usize,
     i: usize,
     access: &Access,
     mut reloads: [u32; TASKS_MOST],
 ) -> [u32; TASKS_MOST] {
-    let above_ceiling = reloads[..access.ceiling].iter_mut().zip(&table.tasks);
+    let own = blocks.useful_in(access);
     match method {
         2 => {
-            let value = size(access.useful);
-            for (reloads, _) in above_ceiling {
+            let value = blocks.size(own);
+            for reloads in &mut reloads[..access.ceiling] {
                 *reloads = value.max(*reloads);
             }
         }
         3 => {
-            let affected = table.tasks[access.ceiling + 1..=i].iter();
-            let mut useful = affected.map(|task| task.useful).fold(access.useful, union);
+            let affected = (access.ceiling + 1..=i).map(|task| blocks.useful(task));
+            let mut useful = blocks.together(own, together(blocks, affected));
             for j in (0..access.ceiling).rev() {
-                useful = union(useful, table.tasks[j + 1].useful);
-                reloads[j] = size(intersection(useful, table.tasks[j].evicting));
+                useful = blocks.together(useful, blocks.useful(j + 1));
+                reloads[j] = blocks.lost(useful, blocks.evicting(j));
             }
         }
         4 => {
-            let mut evicting = [0; 4];
-            for (reloads, task) in above_ceiling {
-                evicting = union(evicting, task.evicting);
-                let value = size(intersection(access.useful, evicting));
+            let mut evicting = B::NOTHING_EVICTING;
+            for (j, reloads) in reloads.iter_mut().enumerate().take(access.ceiling) {
+                evicting = blocks.union(evicting, blocks.evicting(j));
+                let value = blocks.lost(own, evicting);
                 *reloads = value.max(*reloads);
             }
         }
         _ => {}
     }
     reloads
-}
-
-fn union(a: Words, b: Words) -> Words {
-    [a[0] | b[0], a[1] | b[1], a[2] | b[2], a[3] | b[3]]
-}
-
-fn intersection(a: Words, b: Words) -> Words {
-    [a[0] & b[0], a[1] & b[1], a[2] & b[2], a[3] & b[3]]
-}
-
-fn size(words: Words) -> u32 {
-    words.iter().map(|word| word.count_ones()).sum()
 }
 
 // ---- writing

@@ -62,15 +62,17 @@ fn with_fewer_sets(text: &[u8]) -> Vec<Vec<u8>> {
     let dropped = std::iter::once(half)
         .chain(single)
         .filter(|(from, to)| from < to);
+    // where useful blocks are counted, a set has a digit of its own
+    let of_useful = if lines[0].len() == 4 { 4 } else { 1 };
     let shrunk = dropped.map(|(from, to)| {
         let mut lines = lines.clone();
         lines[0][1] = (4 * (digits - (to - from))).to_string().into_bytes();
         let bitmaps = lines[1..].iter_mut().flat_map(|line| {
             let first = first_bitmap(line);
-            line.iter_mut().skip(first)
+            line.iter_mut().skip(first).zip([of_useful, 1])
         });
-        for field in bitmaps.filter(|field| field.len() >= to) {
-            field.drain(from..to);
+        for (field, digits) in bitmaps.filter(|(field, digits)| field.len() >= digits * to) {
+            field.drain(digits * from..digits * to);
         }
         joined(&lines)
     });
@@ -304,7 +306,8 @@ mod tests {
         };
         let least = shrink_value(&value, &shows);
         assert_eq!(least.access_count(), 1);
-        assert_eq!(least.access(0), [0, 0, 3, 0, 0, 0, 0]);
+        assert_eq!(least.access(0)[..3], [0, 0, 3]);
+        assert!(least.access(0)[3..].iter().all(|word| *word == 0));
     }
 
     #[test]

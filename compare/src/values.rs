@@ -2,23 +2,26 @@
 
 mod accesses;
 
+mod counts;
+
 use crate::model::value::{
-    access_at, at, is_marked, kind_of, Kind, Value, ACCESS_COUNT, ACCESS_LENGTH, ACCESS_PLACE,
-    ACCESS_USEFUL, BLOCKING, COUNT, DEADLINE, EVICTING, EXECUTION, JITTER, NAME, PERIOD, PLACE,
-    RELOAD_TIME, SETS, USEFUL,
+    access_at, at, is_marked, kind_of, level_of, Kind, Value, ACCESS_COUNT, ACCESS_LENGTH,
+    ACCESS_PLACE, ACCESS_USEFUL, BLOCKING, COUNT, DEADLINE, EVICTING, EXECUTION, FORM, JITTER,
+    LEVELS, NAME, PERIOD, PLACE, RELOAD_TIME, SETS, USEFUL, WORDS,
 };
 use crate::model::{ACCESSES_MOST, TASKS_MOST};
 use crate::random::Random;
 
-/// The kinds of numbers: the four of the whole table, those of a task, of a place past the last task,
+/// The kinds of numbers: the five of the whole table, those of a task, of a place past the last task,
 /// of an access, and of a place past the last access.
 const KINDS: usize = OF_TABLE.len() + 2 * PLACE + 2 * ACCESS_PLACE;
-const OF_TABLE: [usize; 4] = [SETS, RELOAD_TIME, COUNT, ACCESS_COUNT];
+const OF_TABLE: [usize; 5] = [SETS, RELOAD_TIME, FORM, COUNT, ACCESS_COUNT];
 
 /// How many values of each sort are made from one.
 const WITH_ONE_NUMBER: usize = 8;
-const IN_SOME_MANNER: usize = 5;
+const IN_SOME_MANNER: usize = 6;
 const WITH_SEVERAL_NUMBERS: usize = 1;
+const WITH_A_DIGIT_MORE: usize = 1;
 
 /// Values with something changed; `turn` decides what, so that each kind and each manner has its turn.
 pub fn changed(random: &mut Random, value: &Value, turn: usize) -> Vec<Value> {
@@ -30,12 +33,16 @@ pub fn changed(random: &mut Random, value: &Value, turn: usize) -> Vec<Value> {
         values.push(changed);
     }
     for step in 0..IN_SOME_MANNER {
-        let manners = MANNERS.len() + accesses::MANNERS.len();
-        let manner = (turn * IN_SOME_MANNER + step) % manners;
-        let manner = MANNERS.iter().chain(&accesses::MANNERS).nth(manner);
-        let manner = manner.expect("below their number");
+        let manners = MANNERS.iter().chain(&accesses::MANNERS);
+        let manners: Vec<&Manner> = manners.chain(&counts::MANNERS).collect();
+        let manner = manners[(turn * IN_SOME_MANNER + step) % manners.len()];
         let mut changed = value.clone();
         manner(random, &mut changed);
+        values.push(changed);
+    }
+    for _ in 0..WITH_A_DIGIT_MORE {
+        let mut changed = value.clone();
+        add_digit(random, &mut changed);
         values.push(changed);
     }
     for _ in 0..WITH_SEVERAL_NUMBERS {
@@ -59,15 +66,41 @@ fn change_number(random: &mut Random, value: &mut Value, kind: usize) {
         let end = value.sets().wrapping_sub(word as u64 * 64);
         other_word(random, old, end)
     };
+    let other_level = |random: &mut Random, word: usize| {
+        // mostly a set that is in the level below and not in the one above
+        let below = |of: usize| value.numbers[index - of];
+        let inside = if level_of(word) == 0 {
+            u64::MAX
+        } else {
+            below(WORDS)
+        };
+        let is_highest = level_of(word) + 1 == LEVELS;
+        let above = if is_highest {
+            0
+        } else {
+            value.numbers[index + WORDS]
+        };
+        let bits = (0..64).filter(|bit| inside >> bit & 1 == 1 && above >> bit & 1 == 0);
+        let bits: Vec<u32> = bits.collect();
+        if bits.is_empty() || random.chance(30) {
+            other_marks(random, word % WORDS)
+        } else {
+            old ^ 1 << *random.pick(&bits)
+        }
+    };
     while new == old {
         new = match kind_of(index) {
             Kind::OfTask(_, field) if NAME.contains(&field) => other_byte(random, old),
-            Kind::OfTask(_, field) if field >= USEFUL.start => {
-                other_marks(random, (field - USEFUL.start) % 4)
+            Kind::OfTask(_, field) if EVICTING.contains(&field) => {
+                other_marks(random, field - EVICTING.start)
+            }
+            Kind::OfTask(_, field) if USEFUL.contains(&field) => {
+                other_level(random, field - USEFUL.start)
             }
             Kind::OfAccess(_, field) if field >= ACCESS_USEFUL.start => {
-                other_marks(random, field - ACCESS_USEFUL.start)
+                other_level(random, field - ACCESS_USEFUL.start)
             }
+            Kind::OfTable if index == FORM && random.chance(60) => random.between(0, 9),
             Kind::OfAccess(_, field) if field < ACCESS_LENGTH && random.chance(60) => {
                 random.between(0, value.count().min(32))
             }
@@ -336,12 +369,23 @@ fn pass_ends_of_ranges(random: &mut Random, value: &mut Value) {
     let task = any_task(random, value);
     let place = value.place_mut(task);
     let past = 250_000_001;
-    if random.chance(40) {
+    if random.chance(20) {
+        value.numbers[RELOAD_TIME] = 100_001;
+    } else if random.chance(40) {
         place[*random.pick(&[EXECUTION, BLOCKING])] = past;
     } else {
         place[PERIOD] = past;
         place[DEADLINE] = *random.pick(&[place[DEADLINE], 250_000_000, past]);
         place[JITTER] = *random.pick(&[place[JITTER], place[DEADLINE]]);
+    }
+}
+
+/// Gives an execution time a digit more, as long as it stays in its range.
+fn add_digit(random: &mut Random, value: &mut Value) {
+    let task = any_task(random, value);
+    let execution = &mut value.place_mut(task)[EXECUTION];
+    if *execution <= 25_000_000 {
+        *execution *= 10;
     }
 }
 
@@ -376,7 +420,8 @@ fn mark_too_high(random: &mut Random, value: &mut Value) {
         let any = random.between(sets, 255);
         let set = *random.pick(&[sets, any, 255]);
         let task = any_task(random, value);
-        let words = random.pick(&[USEFUL, EVICTING]).clone();
+        let levels = USEFUL.start + WORDS * random.below(LEVELS)..USEFUL.end;
+        let words = random.pick(&[USEFUL, USEFUL, levels, EVICTING]).clone();
         value.place_mut(task)[words][(set / 64) as usize] |= 1 << (set % 64);
     }
 }

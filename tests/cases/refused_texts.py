@@ -11,7 +11,13 @@ TABLE = [
     "T\tb\t2\t40\t40\t0\t0\t03\tff",
     "A\tb\ta\t2\t03",
 ]
-SETS, RELOAD = "the number of cache sets", "the block reload time"
+COUNTED = [
+    "K\t8\t1\t2",
+    "T\ta\t1\t20\t20\t0\t0\t00000000\t0f",
+    "T\tb\t2\t40\t40\t0\t0\t00000012\tff",
+    "A\tb\ta\t2\t00000021",
+]
+SETS, RELOAD, WAYS = "the number of cache sets", "the block reload time", "the number of ways"
 NAME, USEFUL, EVICTING = "the name", "the useful cache sets", "the evicting cache sets"
 TASK_NUMBERS = ["the execution time", "the period", "the deadline", "the jitter", "the blocking"]
 OF_TASK, OF_CEILING, LENGTH = "the name of the task", "the name of the ceiling", "the length"
@@ -84,15 +90,34 @@ def shapes():
         yield other_line(3, 1, first, shown, 0)
     for shown in "X", "", "TT\ta", "t\ta", "K\t8\t1", "\tT\ta", "# a remark":
         yield other_line(3, 3, neither, shown, 0)
-    for line, kind, count in (1, "K", 3), (2, "T", 9), (4, "A", 5):
-        words = "a line %s has %d fields, and this one %%d" % (kind, count)
-        fields = TABLE[line - 1].split("\t")
-        for few in 1, count - 1:
+    for line, kind, least, count in (1, "K", 3, 4), (2, "T", 9, 9), (4, "A", 5, 5):
+        wanted = "%d or %d" % (least, count) if least < count else str(count)
+        words = "a line %s has %s fields, and this one %%d" % (kind, wanted)
+        fields = (COUNTED if line == 1 else TABLE)[line - 1].split("\t")
+        for few in 1, least - 1:
             yield other_line(3, line, words % few, "\t".join(fields[:few]), few)
         for surplus in ["x"], ["", "yz"], ["0", "11", "222"]:
             shown = "\t".join(fields + surplus)
             yield other_line(3, line, words % (count + len(surplus)), shown, count, count + len(surplus) - 1)
     yield other_line(3, 5, "a task line stands below an access line", "T\tc\t1\t20\t20\t0\t0\t00\t0f", 0)
+
+
+def counted():
+    """Refusals 5 to 7 and 18 where line 1 names the ways."""
+    for value in "", "01", "x", "1000000000":
+        yield other_field(5, 1, 3, MALFORMED % WAYS, value, COUNTED)
+    for value in "0", "9", "999999999":
+        yield other_field(6, 1, 3, "%s is not in the range from 1 to 8" % WAYS, value, COUNTED)
+    for line, field in (3, 7), (4, 4):
+        for value in "", "12", "000000123", "0000000a", "0000000-":
+            yield other_field(7, line, field, USEFUL + " are not 8 digits of 0-9, one for each cache set", value, COUNTED)
+        for value in "00000003", "90000000", "00011132":
+            yield other_field(18, line, field, USEFUL + " have a count above the 2 ways of a cache set", value, COUNTED)
+    yield other_field(7, 3, 8, EVICTING + " are not 2 digits of 0-9 and a-f", "fff", COUNTED)
+    ways = ["K\t8\t1\t1", COUNTED[1]]
+    yield other_line(18, 3, USEFUL + " have a count above the 1 way of a cache set", COUNTED[2], 7, table=[*ways, COUNTED[2]])
+    yield other_line(18, 3, USEFUL + " have a count above the 2 ways of a cache set", "T\ta\t2\t40\t41\t0\t0\t00000013\tff", 7, table=COUNTED)
+    yield other_line(18, 4, USEFUL + " have a count above the 2 ways of a cache set", "A\tc\tc\t1\t00000003", 4, table=COUNTED)
 
 
 def whole_texts():
@@ -177,5 +202,5 @@ def odd_bytes():
 
 
 def refusals():
-    parts = (whole_texts, shapes, numbers, names_and_caches, between_fields, too_many, order, odd_bytes)
+    parts = (whole_texts, shapes, numbers, names_and_caches, counted, between_fields, too_many, order, odd_bytes)
     return [(part.__doc__.splitlines()[0].rstrip("."), list(part())) for part in parts]

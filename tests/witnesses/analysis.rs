@@ -3,6 +3,7 @@ use crate::carried::{weigh_access, weigh_row, Column, Terms};
 use crate::costs::{term, Charge, Hit, Single};
 use crate::{blocked_row, need, one_row, respond, rows, Method};
 use cache::units::{Reloads, Ticks};
+use search::demand::Response;
 use table::accesses::{plain_access, Access};
 use table::Table;
 use ::{cache, table};
@@ -44,7 +45,7 @@ fn access(table: &Table, i: usize, args: &mut Args) -> Access {
     if n < table.access_count {
         table.accesses[n]
     } else {
-        plain_access(table.tasks[i])
+        plain_access(&table.tasks[i])
     }
 }
 
@@ -118,7 +119,7 @@ fn answer(name: &str, args: &mut Args) -> String {
             let (method, i) = (single(args), args.size());
             let mut row = one_row::charged(&table, method, i);
             let access = access(&table, i, args);
-            blocked_row::join(&table, method, i, access, &mut row);
+            blocked_row::join(&table, method, i, &access, &mut row);
             show(&row[..i])
         }
         "terms" => {
@@ -126,21 +127,22 @@ fn answer(name: &str, args: &mut Args) -> String {
             let (method, i) = (single(args), args.size());
             let mut row = one_row::charged(&table, method, i);
             let access = access(&table, i, args);
-            blocked_row::join(&table, method, i, access, &mut row);
+            blocked_row::join(&table, method, i, &access, &mut row);
             show(&blocked_row::terms(&table, i, &row)[..i])
         }
-        "least_under" => {
+        "later_under" => {
             let table = tables::read(args);
             let (method, i, limit) = (single(args), args.size(), args.number());
             let row = one_row::charged(&table, method, i);
             let access = access(&table, i, args);
-            show(crate::least_under(
+            show(crate::later_under(
                 &table,
                 method,
                 i,
                 Ticks(limit),
                 &row,
-                access,
+                &access,
+                Response::Within(Ticks(0)),
             ))
         }
         "weigh_row" => {
@@ -154,7 +156,7 @@ fn answer(name: &str, args: &mut Args) -> String {
             let i = args.size();
             let (ledger, mut terms) = carried(&table, i);
             let access = access(&table, i, args);
-            weigh_access(&table, i, &ledger, access, &mut terms);
+            weigh_access(&table, i, &ledger, &access, &mut terms);
             shown(&terms, i)
         }
         _ => unknown(name),

@@ -79,6 +79,16 @@ def several_accesses():
     return [(it, 3) for it in found]
 
 
+def counted_tables():
+    """Tables of 2 and 3 ways, where counts of two tasks are more than the ways, and where they are not."""
+    found = []
+    for ways in (2, 3):
+        for a, b, c, d in (("0012", "2100", "0022", "0201"), ("2222", "2222", "1111", "1212"), ("0001", "0010", "0100", "0011"), ("1111", "0202", "2020", "0000")):
+            lines = "K\t4\t1\t%d\nT\ta\t1\t60\t60\t0\t0\t%s\tf\nT\tb\t2\t120\t120\t0\t0\t%s\t7\nT\tc\t2\t180\t180\t0\t0\t%s\tc\n" % (ways, a, b, c)
+            found += [(lines, 3), (lines + "A\tc\ta\t5\t%s\n" % d, 3), (lines + "A\tb\tb\t5\t%s\nA\tc\tb\t4\t%s\n" % (d, a), 3)]
+    return found
+
+
 def many_accesses(n, last=""):
     return head(4, 1) + task(0, 1, 20, 20, 0, 0, 3, 15, 4) + task(1, 1, 30, 30, 0, 0, 3, 15, 4) + "A\tb\ta\t1\t3\n" * n + last
 
@@ -126,7 +136,7 @@ def heads():
     for sets in ["4", "0", "2", "6", "3", "8", "256", "260", "258", "252", "64", "04", "", "x", "1000000000", "999999999"]:
         for brt in ["1", "0", "100000", "100001", "x", "", "00", "1000000000"]:
             found.append("K\t%s\t%s" % (sets, brt))
-    return found + ["K", "k\t4\t1", "KK\t4\t1", "K\t4", "K\t4\t1\t", "K\t4\t1\t1", "K\t4\t1\t1\t1", "T\t4\t1", "", "\t4\t1", "K 4 1", "K\t4\t1\r"]
+    return found + ["K", "k\t4\t1", "KK\t4\t1", "K\t4", "K\t4\t1\t", "K\t4\t1\t1", "K\t4\t1\t2", "K\t4\t1\t8", "K\t4\t1\t9", "K\t4\t1\t0", "K\t4\t1\tx", "K\t4\t1\t1\t1", "T\t4\t1", "", "\t4\t1", "K 4 1", "K\t4\t1\r"]
 
 
 def texts():
@@ -166,15 +176,27 @@ def of_cache():
     found, draw = [], random.Random(1)
     sets = SETS + [[draw.getrandbits(64) for _ in range(4)] for _ in range(4)]
     for a in sets:
-        found += ["size %s" % words(a), "at %s,%s 0" % (words(a), words(sets[5])), "at %s,%s 1" % (words(sets[5]), words(a)), "store %s 0,0,0,0,0,0,0,0 1" % words(a), "store %s 9,9,9,9 0" % words(a)]
+        found += ["size %s" % words(a), "from_words %s,%s 0" % (words(a), words(sets[5])), "from_words %s,%s 1" % (words(sets[5]), words(a)), "put_words %s 0,0,0,0,0,0,0,0 1" % words(a), "put_words %s 9,9,9,9 0" % words(a), "is_empty %s" % words(a), "has %s 3" % words(a)]
         for b in sets:
-            found += ["union %s %s" % (words(a), words(b)), "intersection %s %s" % (words(a), words(b)), "shared_size %s %s" % (words(a), words(b))]
+            found += ["union %s %s" % (words(a), words(b)), "intersection %s %s" % (words(a), words(b)), "is_in %s %s" % (words(a), words(b))]
     for field in ["", "0", "f", "9", "a", "F", "A", "G", "g", "/", ":", "@", "`", "10", "0f", "f0", "1g", "g1", "123456789abcdef0", "0123456789abcdef" * 2, "0123456789abcdef" * 4, "1" + "0" * 16, "1" + "0" * 32, "1" + "0" * 48, "8" + "0" * 63, "fedcba9876543210" * 3, "g" + "0" * 63, "0" * 63 + "g", "1" * 63, "2" * 62, "3" * 47, "4" * 33, "5" * 17]:
         if len(field) <= 64:
             found.append("read_words %s" % text(field))
         for sets in {0, 4, 8, 64, 256, 260, 4 * len(field), 2 * len(field), 4 * len(field) + 1, 8 * len(field)}:
             found.append("from_field %s %d" % (text(field), sets))
     found += ['from_field "%s" 260' % ("0" * 65), 'from_field "%s" 512' % ("0" * 128)]
+    for field in ["0012", "2100", "8765", "0000", "1111", "00000000000000000000000000000000000000000000000000000000000000000123"]:
+        for ways in (1, 2, 3, 8):
+            digits_ = text(field)
+            found += ["%s %s %d" % (what, digits_, ways) for what in ("useful_size", "marks", "is_within")] + ["is_within %s 0" % digits_]
+            found += ["%s %s %d %s" % (what, digits_, ways, words(a)) for what in ("size_in", "shared_size") for a in SETS]
+            found += ["count %s %d %d" % (digits_, ways, s) for s in (0, 1, 3, 64, 255)] + ["level %s %d %d" % (digits_, ways, n) for n in (0, 1, 7)]
+            found += ["join %s %d %s %d" % (digits_, ways, text(other), ways) for other in ("0012", "1111", "0203")]
+            found += ["joined_size_in %s %d %s %d %s" % (digits_, ways, text(other), ways, words(a)) for other in ("0012", "1111", "0203") for a in (SETS[1], SETS[5], FULL)]
+    for field in ["0012", "001", "00120", "00a2", "00/2", "00:2", "0013", "0009", "f", "3", ""]:
+        for sets in (4, 8):
+            found += ["useful_from_field %s %d %d" % (text(field), sets, ways) for ways in (0, 1, 2, 8)]
+    found += ["useful_from_words %s" % words(range(1, 33)), "ways 0", "ways 1", "ways 8", "of_words 4 3 2 1"] + ["marked %s" % words(a) for a in SETS]
     for n in (0, 1, 2, 255, 2048):
         found += ["time %d %d" % (n, brt) for brt in (0, 1, 2, 7, 100000)]
     return found
@@ -201,7 +223,7 @@ def of_table():
         if len(field) <= 12:
             found += ["name_text %s" % text(field), "is_filled %s" % text(field), "position_of %s %s -" % (text(field), text(THREE)), "is_known %s %s -" % (text(field), text(THREE))]
     for field in ["a\0b", "\0a", "a\0\0b", "abcdefghijk\0", "a\0\0\0\0\0\0\0\0\0\0b", "a", "b", "c", "d", "ab", "ca", "abcdefghijkl"]:
-        found += ["name_text %s" % text(field), "is_filled %s" % text(field)]
+        found += ["name_text %s" % text(field), "is_filled %s" % text(field), "name_len %s" % text(field)]
         for n in (1, 2, 3, 32):
             found += ["position_of %s %s -" % (text(field), text(many_tasks(n))), "is_known %s %s -" % (text(field), text(many_tasks(n)))]
     found += ["position_of %s %s t2.name=97" % (text("a"), text(THREE)), "position_of %s %s t1.name=99" % (text("c"), text(THREE)), "is_known %s %s count=2" % (text("c"), text(THREE)), "position_of %s %s count=0" % (text("a"), text(THREE))]
@@ -210,11 +232,17 @@ def of_table():
     for a in ["", "a", "b", "ab", "ac", "bb", "abc", "abd", "aa", "ba", "abcdefghijkl", "abcdefghijkm"]:
         found += ["same_bytes %s %s" % (text(a), text(b)) for b in ["", "a", "b", "ab", "abc", "bb", "aa", "abcdefghijkl", "bbc"]]
     found += ["%s %d" % (it, k) for it in ("number", "untold") for k in range(18)]
+    found += ["ways %s form=%d" % (text(THREE), ways) for ways in (0, 1, 2, 8)]
     found += ["may_block %d %d %d" % (t, c, i) for t in range(4) for c in range(4) for i in range(4)]
     found += ["plain_access %s %s %d" % (text(THREE), change, k) for change in ("-", "t0.blocking=5;t1.blocking=7;t2.blocking=9") for k in range(3)]
-    found += ["head %s" % text(it) for it in heads()] + ["head_in_range %d %d" % (sets, brt) for sets in (0, 1, 2, 3, 4, 5, 6, 8, 252, 254, 255, 256, 257, 260, 512) for brt in (0, 1, 99999, 100000, 100001)]
-    found += ["task_line %s 4 %s -" % (text(it), text(head(4, 1) + "T\tzz\t1\t20\t20\t0\t0\t0\tf\n")) for it in lines()] + ["task_line %s 4 %s -" % (text(it), text(THREE)) for it in lines()[::7]]
-    found += ["access_line %s 4 %s -" % (text(it), text(THREE)) for it in access_lines()]
+    found += ["head %s" % text(it) for it in heads()] + ["head_in_range %d %d 0" % (sets, brt) for sets in (0, 1, 2, 3, 4, 5, 6, 8, 252, 254, 255, 256, 257, 260, 512) for brt in (0, 1, 99999, 100000, 100001)]
+    found += ["head_in_range 4 1 %d" % ways for ways in (1, 2, 7, 8, 9, 10)]
+    found += ["task_line %s 0 4 %s -" % (text(it), text(head(4, 1) + "T\tzz\t1\t20\t20\t0\t0\t0\tf\n")) for it in lines()] + ["task_line %s 0 4 %s -" % (text(it), text(THREE)) for it in lines()[::7]]
+    found += ["access_line %s 0 4 %s -" % (text(it), text(THREE)) for it in access_lines()]
+    for ucb in ("0012", "0013", "00", "00a0", "f", "9000"):
+        for times in ("1\t20\t20\t0\t0", "1\t20\t21\t0\t0", "1\t20\t20\t21\t0"):
+            found.append("task_line %s 2 4 %s -" % (text("T\tz\t%s\t%s\tf" % (times, ucb)), text(THREE)))
+        found += ["access_line %s 2 4 %s -" % (text("A\t%s\t5\t%s" % (names, ucb)), text(THREE)) for names in ("c\ta", "c\td", "a\tc", "d\ta")]
     for field, values in {"work": (0, 1, 250000000, 250000001), "period": (0, 19, 20, 21, 250000000, 250000001), "deadline": (0, 1, 19, 20, 21, 250000000, 250000001), "jitter": (0, 1, 19, 20, 21, 250000001), "blocking": (0, 1, 250000000, 250000001)}.items():
         found += ["is_timely %s t0.%s=%d 0" % (text(THREE), field, n) for n in values]
     found += ["is_timely %s t0.period=250000001;t0.deadline=250000001;t0.jitter=%d 0" % (text(THREE), n) for n in (0, 250000001)]
@@ -276,7 +304,7 @@ def of_analysis():
     hits = [(0, 0), (0, 3), (1, 0), (1, 2), (2, 1), (5, 5)]
     found += ["larger %d %d %d %d" % (*a, *b) for a in hits for b in hits] + ["victim_with %d %d %d %d" % (*a, *b) for a in hits for b in hits]
     found += ["no_victim_with %d %d %d" % (n, *a) for a in hits for n in (0, 1, 9)] + ["count_of_victim %d %d" % a for a in hits] + ["count_of_no_victim %d" % n for n in (0, 1, 9)]
-    for it, n in tables(5, 80) + [(THREE, 3), (THREE + "A\tc\ta\t5\t3\n", 3), (THREE + "A\tc\tb\t5\tf\nA\tb\ta\t2\t3\n", 3), (many_tasks(32), 32), (head(4, 0) + "T\ta\t250000000\t250000000\t250000000\t0\t0\t0\tf\n", 1), *several_accesses()]:
+    for it, n in tables(5, 80) + [(THREE, 3), (THREE + "A\tc\ta\t5\t3\n", 3), (THREE + "A\tc\tb\t5\tf\nA\tb\ta\t2\t3\n", 3), (many_tasks(32), 32), (head(4, 0) + "T\ta\t250000000\t250000000\t250000000\t0\t0\t0\tf\n", 1), *several_accesses(), *counted_tables()]:
         said, accesses = text(it), it.count("\nA")
         rows = range(n) if n < 32 else (0, 1, 31)
         found.append("responses %s" % said)
@@ -287,7 +315,7 @@ def of_analysis():
             may = [k for k, line in enumerate([x for x in it.split("\n") if x.startswith("A")]) if blocks(it, line, i)]
             for k in [*may, accesses]:
                 found += ["%s %s %d %d %d" % (call, said, m, i, k) for m in range(5) for call in ("join", "terms")] + ["weigh_access %s %d %d" % (said, i, k)]
-                found += ["least_under %s %d %d %d %d" % (said, m, i, limit, k) for m in range(5) for limit in (10, 100, 10000)]
+                found += ["later_under %s %d %d %d %d" % (said, m, i, limit, k) for m in range(5) for limit in (10, 100, 10000)]
     return found
 
 
@@ -315,6 +343,12 @@ def of_writing():
     for it in sets:
         found += ["marks_fit %d %s" % (n, words(it)) for n in (0, 1, 4, 8, 60, 63, 64, 65, 68, 128, 132, 192, 196, 252, 256, 260, 2**64 - 1)]
         found += ["draft marks %d %s" % (n, words(it)) for n in (0, 4, 8, 60, 64, 68, 128, 132, 192, 196, 252, 256)]
+    levels = [[0] * 32, [1], [16], [5, 0, 0, 0, 1], [1, 0, 0, 0, 3], [0, 1], [0, 0, 0, 2**63], [3, 0, 0, 0, 1, 0, 0, 0, 1], [15, 0, 0, 0] * 7, [15, 0, 0, 0] * 8, [2, 0, 0, 0] * 3 + [8, 0, 0, 0], [0] * 28 + [1], [2**64 - 1, 2**64 - 1, 2**64 - 1, 2**64 - 1] * 2]
+    for it in levels:
+        found += ["useful_fits %d %d %s" % (ways, n, words(it)) for ways in (0, 1, 2, 3, 7, 8) for n in (0, 1, 4, 64, 68, 256)]
+        found += ["draft useful %d %d %s" % (ways, n, words(it)) for ways in (0, 1, 2, 3, 7, 8) for n in (4, 8, 64, 68)]
+    found += ["digits_in %d" % n for n in (0, 1, 9, 10, 11, 99, 100, 101, 999999999, 1000000000, 2**64 - 1)]
+    found += ["put_at %s %d %d" % (text(it), at, size) for it in ("", "a", "abc") for size in (0, 1, 4, 7) for at in (0, 1, 2, 4) if at + len(it) <= size]
     return found
 
 
@@ -340,11 +374,40 @@ ONE = "access_count=1;a0.task=2;a0.ceiling=1;a0.lasts=5;a0.ucb=3:0:0:0"
 CHANGES += [ONE, *("%s;%s" % (ONE, it) for it in ("a0.task=3", "a0.task=1", "a0.task=0", "a0.ceiling=2", "a0.ceiling=3", "a0.ceiling=0", "a0.lasts=0", "a0.lasts=250000000", "a0.lasts=250000001", "a0.ucb=16:0:0:0", "a0.ucb=0:0:0:1", "t1.blocking=1", "t2.blocking=1", "a1.lasts=1", "a1.task=1", "a1.ucb=1:0:0:0", "count=2", "access_count=2"))]
 
 
+COUNTED = "K\t4\t1\t2\nT\ta\t1\t20\t20\t0\t0\t0012\tf\nT\tb\t2\t40\t40\t0\t0\t2100\tf\nA\tb\ta\t5\t0201\n"
+
+
+def longest_counted(spare, work=1, period=100, accesses=20):
+    """A word of a table text with `spare` bytes fewer than a text may have."""
+    said = lambda k, more: "T\t%s\t%d\t%d\t%d\t0\t0\t" % (name(k) + "-" * more, work, period + k, period + k)
+    blocking = "A\t%s\t%s\t1\t" % (name(1), name(0))
+    first = "K\t256\t1\t2\n"
+    left = 16384 - spare - len(first) - sum(len(said(k, 0)) + 256 + 1 + 64 + 1 for k in range(32)) - accesses * (len(blocking) + 256 + 1)
+    tasks = []
+    for k in range(32):
+        more = min(9, left) if 2 <= k else 0
+        tasks.append(said(k, more))
+        left -= more
+    assert left == 0
+    lines = [text(it) + '+"0"*256+"\\t"+"f"*64+"\\n"' for it in tasks] + [text(blocking) + '+"0"*256+"\\n"'] * accesses
+    return "+".join([text(first), *lines])
+
+
+def is_measured(change):
+    """Whether the length of a table with this change is told: its counts and its sets are in range."""
+    return not any(it in change for it in ("sets=257", "sets=260", "count=33", "count=1844", "a0.task=3", "a0.ceiling=3", ";count=2"))
+
+
 def of_table_text():
     found = []
     for it, _ in tables(9, 40) + [(THREE, 3), (many_tasks(32), 32), (many_accesses(32), 2), (THREE + "A\tc\ta\t5\t3\nA\tb\tb\t7\tc\n", 3)]:
         found += ["write %s %d" % (text(it), size) for size in (0, len(it) - 1, len(it), len(it) + 3)] + ["is_readable %s -" % text(it)]
-    return found + ["is_readable %s %s" % (text(THREE), it) for it in CHANGES]
+        found.append("length %s -" % text(it))
+    for it in (COUNTED, COUNTED.replace("\t2\n", "\t8\n", 1)):
+        found += ["write %s %d" % (text(it), size) for size in (0, len(it) - 1, len(it), len(it) + 3)] + ["is_readable %s -" % text(it), "length %s -" % text(it)]
+    for spare in (0, 1):
+        found += ["is_readable %s -" % longest_counted(spare), "length %s -" % longest_counted(spare)]
+    return found + ["%s %s %s" % (call, text(THREE), it) for it in CHANGES + ["form=1", "form=2", "form=8", "form=9"] for call in ("is_readable", "length") if call == "is_readable" or is_measured(it)]
 
 
 def of_growth():
@@ -353,6 +416,7 @@ def of_growth():
     for it, n in tables(10, 90) + [(THREE, 3), (THREE + "A\tc\ta\t5\t3\n", 3)] + [(it, it.count("T")) for it in big] + [(head(4, 1) + "T\ta\t20\t20\t20\t0\t0\t0\tf\n", 1), (head(4, 1) + "T\ta\t10\t20\t20\t0\t0\t0\tf\n", 1), (head(4, 1) + "T\ta\t30\t20\t20\t0\t0\t0\tf\n", 1), (head(4, 1) + "T\ta\t1\t20\t20\t0\t30\t0\tf\n", 1), (head(4, 1) + "T\ta\t1\t20\t20\t0\t19\t0\tf\n", 1), (head(4, 1) + "T\ta\t1\t20\t20\t0\t20\t0\tf\n", 1)]:
         found += ["growth %s %d" % (text(it), m) for m in METHODS]
         found += ["scale %s %d" % (text(it), k) for k in (0, 1, 999, 1000, 1001)]
+    found += ["growth %s %d" % (longest_counted(spare, 9, 100000, 19), m) for spare in (0, 10, 31, 32) for m in (0, 1)]
     found += ["scale %s %d" % (text(many_tasks(n)), k) for n in (31, 32) for k in (1000, 2000)]
     return found
 

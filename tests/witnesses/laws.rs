@@ -5,6 +5,7 @@ use crate::{
 use analysis::costs::Single;
 use analysis::Method;
 use cache::sets::CacheSet;
+use cache::useful::Useful;
 use search::demand::{Response, Term};
 use table::Table;
 use table_text::readable::is_readable;
@@ -18,7 +19,7 @@ use cache::units::Ticks;
 use common::{filled, number, show, unknown, Args};
 
 fn set(args: &mut Args) -> CacheSet {
-    CacheSet::at(&args.list(), 0)
+    CacheSet::from_words(&args.list(), 0)
 }
 
 fn single(args: &mut Args) -> Single {
@@ -68,7 +69,12 @@ fn answer(name: &str, args: &mut Args) -> String {
         "either_way_round" => show(any_order::either_way_round(set(args), set(args))),
         "either_grouping" => show(any_order::either_grouping(set(args), set(args), set(args))),
         "with_itself" => show(any_order::with_itself(set(args))),
-        "shared_sizes" => show(any_order::shared_sizes(set(args), set(args), set(args))),
+        "shared_sizes" => show(any_order::shared_sizes(
+            &Useful::marked(set(args)),
+            set(args),
+            set(args),
+            1,
+        )),
         "answered_twice" => show(any_worker::answered_twice(
             &args.bytes(),
             args.number(),

@@ -7,8 +7,8 @@ use crate::tasks::{is_known, position_of, Head, Name, Task};
 use crate::text::{first_field, next_line, Fields, Lines};
 use crate::Table;
 use ::cache;
-use cache::sets::CacheSet;
 use cache::units::Ticks;
+use cache::useful::{Form, Useful};
 
 #[path = "common.rs"]
 mod common;
@@ -46,6 +46,14 @@ fn name_of(args: &mut Args) -> Name {
     name
 }
 
+// How useful blocks are written: 0 for hex digits, or the ways.
+fn form(args: &mut Args) -> Form {
+    match args.number() {
+        0 => Form::Hex,
+        ways => Form::Digits(ways),
+    }
+}
+
 fn answer(name: &str, args: &mut Args) -> String {
     match name {
         "empty" => tables::shown(&Table::empty()),
@@ -81,6 +89,8 @@ fn answer(name: &str, args: &mut Args) -> String {
         "number" => show(REASONS[args.size()].number()),
         "untold" => show(Refusal::untold(REASONS[args.size()])),
         "name_of" => show(Name::of(&args.bytes())),
+        "name_len" => show(name_of(args).len()),
+        "ways" => show(tables::changed(args).ways()),
         "name_text" => text(name_of(args).text()),
         "is_filled" => show(name_of(args).is_filled()),
         "position_of" => show(position_of(name_of(args), tables::changed(args).tasks())),
@@ -90,27 +100,30 @@ fn answer(name: &str, args: &mut Args) -> String {
                 task: args.size(),
                 ceiling: args.size(),
                 lasts: Ticks(1),
-                ucb: CacheSet::EMPTY,
+                ucb: Useful::NONE,
             };
             show(access.may_block(args.size()))
         }
-        "plain_access" => show(plain_access(*tables::changed(args).task(args.size()))),
+        "plain_access" => show(plain_access(tables::changed(args).task(args.size()))),
         "head" => show(Head::read(&args.bytes())),
         "head_in_range" => show(
             Head {
                 sets: args.number(),
                 brt: Ticks(args.number()),
+                form: form(args),
             }
             .in_range(),
         ),
         "task_line" => show(Task::read(
             &args.bytes(),
+            form(args),
             args.number(),
             tables::changed(args).tasks(),
         )),
         "is_timely" => show(tables::changed(args).task(args.size()).is_timely()),
         "access_line" => show(Access::read(
             &args.bytes(),
+            form(args),
             args.number(),
             tables::changed(args).tasks(),
         )),

@@ -1,4 +1,5 @@
 // What the public functions of `table_text` answer.
+use crate::extent::length;
 use crate::readable::is_readable;
 use crate::write;
 use ::{cache, table};
@@ -15,6 +16,7 @@ fn answer(name: &str, args: &mut Args) -> String {
             let (table, mut out) = (tables::read(args), args.buffer());
             filled(write(&table, &mut out), &out)
         }
+        "length" => show(length(&tables::changed(args))),
         "is_readable" => show(is_readable(&tables::changed(args))),
         _ => unknown(name),
     }

@@ -1,6 +1,7 @@
 // Tables of the cases: the text that one is read from, and values put in places of it, as `count=33;t0.work=5;a2.ucb=1:0:0:0`, or `-` for none.
 use super::cache::sets::CacheSet;
 use super::cache::units::Ticks;
+use super::cache::useful::{Form, Useful};
 use super::common::{number, Args};
 use super::table::accesses::Access;
 use super::table::tasks::{Name, Task};
@@ -14,7 +15,17 @@ pub fn read(args: &mut Args) -> Table {
 
 fn set(value: &str) -> CacheSet {
     let words: Vec<u64> = value.split(':').map(number).collect();
-    CacheSet::at(&words, 0)
+    CacheSet::from_words(&words, 0)
+}
+
+// Four words are marks; 32 are those of the levels.
+fn useful(value: &str) -> Useful {
+    let words: Vec<u64> = value.split(':').map(number).collect();
+    if words.len() == 32 {
+        Useful::from_words(&words)
+    } else {
+        Useful::marked(set(value))
+    }
 }
 
 pub fn changed(args: &mut Args) -> Table {
@@ -28,6 +39,12 @@ pub fn changed(args: &mut Args) -> Table {
         match place {
             "sets" => table.sets = number(value),
             "brt" => table.brt = Ticks(number(value)),
+            "form" => {
+                table.form = match number(value) {
+                    0 => Form::Hex,
+                    ways => Form::Digits(ways),
+                }
+            }
             "count" => table.count = number(value) as usize,
             "access_count" => table.access_count = number(value) as usize,
             _ => {
@@ -47,7 +64,7 @@ pub fn changed(args: &mut Args) -> Table {
                         "deadline" => task.deadline = Ticks(number(value)),
                         "jitter" => task.jitter = Ticks(number(value)),
                         "blocking" => task.blocking = Ticks(number(value)),
-                        "ucb" => task.ucb = set(value),
+                        "ucb" => task.ucb = useful(value),
                         "ecb" => task.ecb = set(value),
                         _ => panic!("a field of a task"),
                     }
@@ -57,7 +74,7 @@ pub fn changed(args: &mut Args) -> Table {
                         "task" => access.task = number(value) as usize,
                         "ceiling" => access.ceiling = number(value) as usize,
                         "lasts" => access.lasts = Ticks(number(value)),
-                        "ucb" => access.ucb = set(value),
+                        "ucb" => access.ucb = useful(value),
                         _ => panic!("a field of an access"),
                     }
                 }
@@ -82,8 +99,8 @@ pub fn shown(table: &Table) -> String {
         .filter(|(k, access)| *k < table.access_count || !is_unused(access))
         .collect();
     format!(
-        "{} {:?} {} {} {:?} {:?}",
-        table.sets, table.brt, table.count, table.access_count, tasks, accesses
+        "{} {:?} {:?} {} {} {:?} {:?}",
+        table.sets, table.brt, table.form, table.count, table.access_count, tasks, accesses
     )
 }
 
@@ -97,15 +114,15 @@ fn is_empty(task: &Task) -> bool {
     ]
     .iter()
     .all(|it| it.0 == 0);
-    none && task.name.bytes == [0; 12] && no_words(task.ucb) && no_words(task.ecb)
+    none && task.name.bytes == [0; 12] && task.ucb.size(8).0 == 0 && no_words(task.ecb)
 }
 
 fn is_unused(access: &Access) -> bool {
-    access.task == 0 && access.ceiling == 0 && access.lasts.0 == 0 && no_words(access.ucb)
+    access.task == 0 && access.ceiling == 0 && access.lasts.0 == 0 && access.ucb.size(8).0 == 0
 }
 
 fn no_words(set: CacheSet) -> bool {
     let mut words = [0; 4];
-    set.store(&mut words, 0);
+    set.put_words(&mut words, 0);
     words == [0; 4]
 }

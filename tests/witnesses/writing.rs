@@ -1,8 +1,9 @@
 // What the public functions of `writing` answer.
-use crate::delivery::{deliver, put, write_error};
-use crate::marks::{marks_fit, write_marks};
-use crate::writer::Draft;
+use crate::delivery::{deliver, put, put_at, write_error};
+use crate::marks::{marks_fit, useful_fits, write_marks, write_useful};
+use crate::writer::{digits_in, Draft};
 use cache::sets::CacheSet;
+use cache::useful::{Form, Useful};
 use table::refusals::{Reason, Refusal};
 
 #[path = "common.rs"]
@@ -30,6 +31,21 @@ const REASONS: [Reason; 18] = [
     Reason::NoText,
 ];
 
+// How useful blocks are written: 0 for hex digits, or the ways.
+fn form(args: &mut Args) -> Form {
+    match args.number() {
+        0 => Form::Hex,
+        ways => Form::Digits(ways),
+    }
+}
+
+// The words of each level, from the first on: those that are not told are 0.
+fn useful(args: &mut Args) -> Useful {
+    let mut words = args.list();
+    words.resize(32, 0);
+    Useful::from_words(&words)
+}
+
 // A draft with what each of these words appends to it.
 fn drafted(args: &mut Args) -> Draft {
     let mut draft = Draft::new();
@@ -46,7 +62,15 @@ fn drafted(args: &mut Args) -> Draft {
             "field_bytes" => draft.field(&args.bytes().as_slice()),
             "fields" => draft.fields(&args.list()),
             "fields_bool" => draft.fields(&args.list().iter().map(|n| *n == 1).collect::<Vec<_>>()),
-            "marks" => write_marks(&mut draft, args.number(), CacheSet::at(&args.list(), 0)),
+            "marks" => write_marks(
+                &mut draft,
+                args.number(),
+                CacheSet::from_words(&args.list(), 0),
+            ),
+            "useful" => {
+                let (form, sets) = (form(args), args.number());
+                write_useful(&mut draft, form, sets, &useful(args));
+            }
             "error" => write_error(
                 &mut draft,
                 Refusal {
@@ -71,7 +95,17 @@ fn answer(name: &str, args: &mut Args) -> String {
             let (text, mut out) = (args.bytes(), args.buffer());
             filled(deliver(&text, &mut out), &out)
         }
-        "marks_fit" => show(marks_fit(args.number(), CacheSet::at(&args.list(), 0))),
+        "put_at" => {
+            let (text, at, mut out) = (args.bytes(), args.size(), args.buffer());
+            let end = put_at(&text, at, &mut out);
+            filled(Ok::<usize, Refusal>(end), &out)
+        }
+        "digits_in" => show(digits_in(args.number())),
+        "useful_fits" => show(useful_fits(form(args), args.number(), &useful(args))),
+        "marks_fit" => show(marks_fit(
+            args.number(),
+            CacheSet::from_words(&args.list(), 0),
+        )),
         _ => unknown(name),
     }
 }

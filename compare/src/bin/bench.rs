@@ -24,7 +24,7 @@ const PLAIN_TURNS: u64 = 5_000_000;
 const ROUNDS: u32 = 40;
 
 /// Room for every report, every explanation and every table.
-const ROOM: [u8; 9_293] = [0; 9_293];
+const ROOM: [u8; 16_384] = [0; 16_384];
 
 /// So often a table that was read is written, so that the reading hardly counts.
 const WRITINGS: u64 = 100;
@@ -76,6 +76,7 @@ fn run(words: &[String]) -> i32 {
     let largest = published(32, 500.0, options.tables);
     time_tables("32 tasks, 256 sets, the largest tables", &largest, &options);
     time_accesses(&options);
+    time_ways(&options);
     time_bad_table("31 tasks of C = T = 1 above a long deadline", &|longest| {
         generate::no_tick_left(31, longest)
     });
@@ -102,6 +103,20 @@ fn with_accesses(tasks: usize, fineness: f64, count: usize, accesses: usize) -> 
         let utilisation = (index % 39 + 1) as f64 * 0.025;
         let mut table = generate::published(&mut random, tasks, fineness, utilisation);
         generate::share_as_published(&mut of_accesses, &mut table, accesses);
+        table.text()
+    });
+    texts.collect()
+}
+
+/// The tables of 32 tasks with so many ways, and accesses that there is room for.
+fn with_ways(count: usize, accesses: usize, ways: u64) -> Vec<Vec<u8>> {
+    let mut random = Random::new(SEED);
+    let mut of_counts = Random::new(SEED + ways);
+    let texts = (0..count).map(|index| {
+        let utilisation = (index % 39 + 1) as f64 * 0.025;
+        let mut table = generate::published(&mut random, 32, 500.0, utilisation);
+        generate::share_as_published(&mut of_counts, &mut table, accesses);
+        generate::count_as_published(&mut of_counts, &mut table, ways);
         table.text()
     });
     texts.collect()
@@ -189,6 +204,27 @@ fn time_accesses(options: &Options) {
     }
     let most = with_accesses(32, 500.0, options.tables, 32);
     time_tables("32 tasks, 256 sets, 32 accesses", &most, options);
+}
+
+/// How the time of a report grows with the ways, and for 8 of them all that is timed of other tables.
+fn time_ways(options: &Options) {
+    println!("32 tasks, 256 sets, with ways ({} tables)", options.tables);
+    for ways in [1, 2, 4, 8] {
+        let texts = with_ways(options.tables, 0, ways);
+        texts.iter().for_each(|text| see_same(text));
+        let (mut out, mut plain_out) = (ROOM, ROOM);
+        time_both(
+            &format!("reports, {ways}"),
+            &texts,
+            options,
+            &mut |text| library::report(text, &mut out),
+            &mut |text| plain::report(text, &mut plain_out),
+        );
+    }
+    let most = with_ways(options.tables, 0, 8);
+    time_tables("32 tasks, 256 sets, 8 ways", &most, options);
+    let shared = with_ways(options.tables, 10, 8);
+    time_tables("32 tasks, 256 sets, 8 ways, 10 accesses", &shared, options);
 }
 
 fn tasks_of(text: &[u8]) -> u64 {

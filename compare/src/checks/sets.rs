@@ -1,17 +1,21 @@
 //! What holds of cache sets and their unions, whatever they are. Sizes are read off responses.
 
 use super::{answer, Compared, Difference};
-use crate::generate::{measuring_evicting, measuring_useful, Table};
+use crate::generate::{measuring_counted, measuring_evicting, measuring_useful, Table};
 use crate::library;
-use crate::model::Outcome;
+use crate::model::{Form, Outcome};
 
-/// The laws of unions and sizes, for cache sets U, A, B and C.
-pub fn laws([sets, a, b, c]: [&[bool]; 4]) -> Compared {
+/// The laws of unions and sizes, for cache sets U, A, B and C, and once more with counts for U.
+pub fn laws([sets, a, b, c]: [&[bool]; 4], (form, counts): (Form, &[usize])) -> Compared {
     let (both, either) = (joined(a, b, |a, b| a && b), joined(a, b, |a, b| a || b));
     let later = joined(b, c, |b, c| b || c);
     let mut compared = 0;
-    for size in [size_by_useful, size_by_evicting] {
-        let of = |others: &[&[bool]]| size(sets, others);
+    let sizes: [&dyn Fn(&[&[bool]]) -> Compared; 3] = [
+        &|others| size_by_useful(sets, others),
+        &|others| size_by_evicting(others, |others| measuring_evicting(sets, others)),
+        &|others| size_by_evicting(others, |others| measuring_counted(form, counts, others)),
+    ];
+    for of in sizes {
         let (together, all) = (of(&[a, b])?, of(&[a, b, c])?);
         let laws = [
             (
@@ -65,10 +69,10 @@ fn size_by_useful(sets: &[bool], others: &[&[bool]]) -> Compared {
 /// The same with the union of ECBs, by ECB-Union. The sets are useful to the lowest task, and the others
 /// are evicted by one task each above it. For the last of these all of them count, and what the tasks
 /// before it cost is left without it.
-fn size_by_evicting(sets: &[bool], others: &[&[bool]]) -> Compared {
+fn size_by_evicting(others: &[&[bool]], table: impl Fn(&[&[bool]]) -> Table) -> Compared {
     let without_last = &others[..others.len() - 1];
-    let ticks = last_response(&measuring_evicting(sets, others), 4)?;
-    let before = last_response(&measuring_evicting(sets, without_last), 4)?;
+    let ticks = last_response(&table(others), 4)?;
+    let before = last_response(&table(without_last), 4)?;
     Ok(ticks - 1 - before)
 }
 
@@ -92,12 +96,28 @@ mod tests {
     fn responses_tell_sizes() {
         let (one, other) = (sets(&[0, 63, 64, 200]), sets(&[63, 64, 65, 255]));
         let all = sets(&[0, 63, 65, 254, 255]);
-        for size in [size_by_useful, size_by_evicting] {
-            let of = |others: &[&[bool]]| size(&all, others).ok();
+        let sizes: [&dyn Fn(&[&[bool]]) -> Compared; 2] =
+            [&|others| size_by_useful(&all, others), &|others| {
+                size_by_evicting(others, |others| measuring_evicting(&all, others))
+            }];
+        for size in sizes {
+            let of = |others: &[&[bool]]| size(others).ok();
             assert_eq!(of(&[&one]), Some(2));
             assert_eq!(of(&[&other]), Some(3));
             assert_eq!(of(&[&one, &other]), Some(4));
             assert_eq!(of(&[&one, &other, &all]), Some(5));
         }
+    }
+
+    #[test]
+    fn responses_tell_sums_of_counts() {
+        let (one, other) = (sets(&[0, 63, 64, 200]), sets(&[63, 64, 65, 255]));
+        let mut counts = vec![0; 256];
+        (counts[0], counts[63], counts[65], counts[254]) = (3, 1, 2, 7);
+        let table = |others: &[&[bool]]| measuring_counted(Form::Counted(7), &counts, others);
+        let of = |others: &[&[bool]]| size_by_evicting(others, table).ok();
+        assert_eq!(of(&[&one]), Some(4));
+        assert_eq!(of(&[&other]), Some(3));
+        assert_eq!(of(&[&one, &other]), Some(6));
     }
 }

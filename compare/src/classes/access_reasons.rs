@@ -1,7 +1,7 @@
 //! Why no text gives a table value because of its accesses.
 
 use super::reasons::{
-    all_of_range, all_past_end, mark_past, of_marks, of_places_past_end, of_range, of_sets,
+    all_of_levels, all_of_range, all_past_end, mark_past, of_levels, of_places_past_end, of_range,
 };
 use super::Names;
 use crate::model::value::{
@@ -29,6 +29,7 @@ pub fn all() -> Names {
     for word in 0..4 {
         reasons.extend(["first", "further"].map(|how| mark_past(how, MARKS, word)));
     }
+    reasons.extend(all_of_levels(MARKS));
     let fields = 0..ACCESS_PLACE;
     reasons.extend(fields.flat_map(|field| all_past_end(&access_field_name(field))));
     reasons
@@ -67,9 +68,7 @@ fn of_access(access: &[u64], value: &Value) -> Names {
     }
     let (name, length) = (access_field_name(ACCESS_LENGTH), access[ACCESS_LENGTH]);
     reasons.extend(of_range(&name, length, 1, TIME_MOST));
-    if of_sets(value.sets()).is_none() {
-        reasons.extend(of_marks(MARKS, &access[ACCESS_USEFUL], value.sets()));
-    }
+    reasons.extend(of_levels(MARKS, &access[ACCESS_USEFUL], value));
     reasons
 }
 

@@ -55,20 +55,29 @@ const OF_ACCESS: [OfAccess; 10] = [
     ("with a ceiling between", |_, access| {
         access.ceiling > 0 && access.ceiling + 1 < access.task
     }),
-    ("with no useful set", |_, access| access.useful.is_empty()),
+    ("with no useful set", |_, access| marks(&access.useful) == 0),
     ("with all sets useful", |table, access| {
-        access.useful.len() == table.sets
+        marks(&access.useful) == table.sets
     }),
     ("with sets of the task's", |table, access| {
         let of_task = &table.tasks[access.task].useful;
-        let is_inside = access.useful.iter().all(|set| of_task.contains(set));
-        is_inside && !access.useful.is_empty() && access.useful.len() < of_task.len()
+        let is_inside = is_inside(&access.useful, |set| of_task[set] > 0);
+        is_inside && (1..marks(of_task)).contains(&marks(&access.useful))
     }),
     ("with sets of nobody's", |table, access| {
-        let mut of_tasks = table.tasks.iter().flat_map(|task| &task.useful);
-        !access.useful.is_empty() && !of_tasks.any(|set| access.useful.contains(set))
+        let has = |set: usize| table.tasks.iter().any(|task| task.useful[set] > 0);
+        marks(&access.useful) > 0 && is_inside(&access.useful, |set| !has(set))
     }),
 ];
+
+/// How many sets have a useful block.
+fn marks(counts: &[usize]) -> usize {
+    counts.iter().filter(|count| **count > 0).count()
+}
+
+fn is_inside(counts: &[usize], has: impl Fn(usize) -> bool) -> bool {
+    (0..counts.len()).all(|set| counts[set] == 0 || has(set))
+}
 
 const OF_EXPLANATION: [OfExplanation; 14] = [
     ("none of them may block the task", |_, task| {

@@ -29,7 +29,7 @@ const OF_UNIONS: [OfUnions; 6] = [
     }),
 ];
 
-const OF_EXPLANATION: [OfExplanation; 17] = [
+const OF_EXPLANATION: [OfExplanation; 18] = [
     ("needs less than it has", |task| {
         task.figure.is_some() && task.figure < Some(task.limit)
     }),
@@ -68,6 +68,9 @@ const OF_EXPLANATION: [OfExplanation; 17] = [
     }),
     ("256 reloads", |task| {
         task.taken.iter().any(|above| above.reloads == 256)
+    }),
+    ("2,048 reloads", |task| {
+        task.taken.iter().any(|above| above.reloads == 2_048)
     }),
 ];
 

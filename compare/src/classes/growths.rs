@@ -1,7 +1,7 @@
 //! What the growths of the made-up texts, and the tables scaled by them, have to reach.
 
 use super::Names;
-use crate::model::{Error, Growing, Growths, Outcome, Table, GROWTH_MOST, METHODS};
+use crate::model::{Error, Growing, Growths, Outcome, Table, GROWTH_MOST, METHODS, TEXT_MOST};
 
 /// Of a growth, each for every method.
 type OfGrowth = (&'static str, fn(u64) -> bool);
@@ -68,9 +68,12 @@ impl Next<'_> {
     }
 }
 
-const OF_NEXT: [OfNext; 12] = [
+const OF_NEXT: [OfNext; 13] = [
     ("the next is refused", |next| {
         next.growing.refusal(next.k).is_some()
+    }),
+    ("the next is a byte too long", |next| {
+        next.growing.text(next.k).len() == TEXT_MOST + 1
     }),
     ("the next leaves only the first task late", |next| {
         next.only_late() == Some(0) && next.table.tasks.len() > 1
@@ -161,8 +164,8 @@ const OF_SCALED: [OfScaled; 6] = [
     }),
 ];
 
-/// What the last k is refused with, as its C has nine digits or ten.
-const REFUSED_LAST: [u64; 2] = [6, 5];
+/// What the last k is refused with, as its C has nine digits or ten, or as the text is too long.
+const REFUSED_LAST: [u64; 3] = [6, 5, 1];
 
 const OF_ACCEPTED: [&str; 3] = ["refusal 12", "refusal 14", "12 before 14"];
 const OF_REFUSED: [&str; 3] = [

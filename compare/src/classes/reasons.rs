@@ -2,10 +2,11 @@
 
 use super::{access_reasons, Names};
 use crate::model::value::{
-    field_name, is_marked, Value, BLOCKING, DEADLINE, EVICTING, EXECUTION, JITTER, NAME, PERIOD,
-    PLACE, USEFUL,
+    field_name, is_marked, Value, ACCESS_CEILING, ACCESS_LENGTH, ACCESS_TASK, BLOCKING, DEADLINE,
+    EVICTING, EXECUTION, JITTER, NAME, PERIOD, PLACE, USEFUL, WORDS,
 };
 use crate::model::TASKS_MOST;
+use std::ops::RangeInclusive;
 
 const TIME_MOST: u64 = 250_000_000;
 
@@ -38,6 +39,13 @@ const ZERO_INSIDE: &str = "a zero inside a name";
 const BYTE_PAST_ZEROS: &str = "a byte past the zeros after a name";
 const ANOTHER_BAD_BYTE: &str = "another bad byte in a name";
 
+const ONE_BYTE_TOO_LONG: &str = "a text that is a byte too long";
+const FAR_TOO_LONG: &str = "a text that is far too long";
+const TEXT_MOST: usize = 16_384;
+
+/// The form is 0 for hex, or the number of ways.
+const FORMS: RangeInclusive<u64> = 0..=8;
+
 const EQUAL_NEIGHBOURS: &str = "equal names of neighbours";
 const EQUAL_APART: &str = "equal names further apart";
 
@@ -57,11 +65,13 @@ pub fn all() -> Names {
         ZERO_INSIDE,
         BYTE_PAST_ZEROS,
         ANOTHER_BAD_BYTE,
+        ONE_BYTE_TOO_LONG,
+        FAR_TOO_LONG,
         EQUAL_NEIGHBOURS,
         EQUAL_APART,
     ];
     reasons.extend(once.map(str::to_string));
-    for (name, least) in [("sets", 4), ("BRT", 0), ("tasks", 1)] {
+    for (name, least) in [("sets", 4), ("BRT", 0), ("form", 0), ("tasks", 1)] {
         reasons.extend(all_of_range(name, least));
     }
     for (field, least) in TIMES {
@@ -76,6 +86,7 @@ pub fn all() -> Names {
             reasons.extend(["first", "further"].map(|how| mark_past(how, which, word)));
         }
     }
+    reasons.extend(all_of_levels("UCB"));
     reasons.extend((0..PLACE).flat_map(|field| all_past_end(&field_name(field))));
     reasons.extend(access_reasons::all());
     reasons
@@ -94,20 +105,57 @@ pub fn reasons(value: &Value) -> Names {
     let mut reasons = Names::new();
     reasons.extend(of_sets(value.sets()));
     reasons.extend(of_range("BRT", value.reload_time(), 0, 100_000));
+    let (least, most) = FORMS.into_inner();
+    reasons.extend(of_range("form", value.form(), least, most));
     match of_range("tasks", value.count(), 1, TASKS_MOST as u64) {
         Some(reason) => {
             reasons.insert(reason);
         }
         None => {
-            let (taken, sets) = (value.taken(), value.sets());
+            let taken = value.taken();
             let tasks = value.places().take(taken);
-            reasons.extend(tasks.flat_map(|task| of_task(task, sets)));
+            reasons.extend(tasks.flat_map(|task| of_task(task, value)));
             reasons.extend(of_equal_names(value));
             reasons.extend(of_places_past_end(value.places(), taken, field_name));
             reasons.extend(access_reasons::reasons(value));
         }
     }
+    if reasons.is_empty() {
+        reasons.extend(of_length(value));
+    }
     reasons
+}
+
+/// Of a value with which nothing else is wrong.
+fn of_length(value: &Value) -> Option<String> {
+    let reason = match length_of(value).saturating_sub(TEXT_MOST) {
+        0 => return None,
+        1 => ONE_BYTE_TOO_LONG,
+        _ => FAR_TOO_LONG,
+    };
+    Some(reason.to_string())
+}
+
+/// How many bytes its text has, each field counted with the tab or LF after it.
+fn length_of(value: &Value) -> usize {
+    let number = |number: &u64| number.to_string().len() + 1;
+    let name = |task: &[u64]| task[NAME].iter().filter(|byte| **byte != 0).count() + 1;
+    let sets = value.sets() as usize;
+    let (useful, first_line) = match value.form() {
+        0 => (sets / 4 + 1, vec![value.sets(), value.reload_time()]),
+        ways => (sets + 1, vec![value.sets(), value.reload_time(), ways]),
+    };
+    let tasks = value.places().take(value.taken()).map(|task| {
+        let times: usize = task[EXECUTION..=BLOCKING].iter().map(number).sum();
+        2 + name(task) + times + useful + sets / 4 + 1
+    });
+    let accesses = value.accesses().map(|access| {
+        let named = |field: usize| name(value.place(access[field] as usize));
+        let names = named(ACCESS_TASK) + named(ACCESS_CEILING);
+        2 + names + number(&access[ACCESS_LENGTH]) + useful
+    });
+    let first_line: usize = first_line.iter().map(number).sum();
+    2 + first_line + tasks.chain(accesses).sum::<usize>()
 }
 
 pub fn of_sets(sets: u64) -> Option<String> {
@@ -130,14 +178,58 @@ pub fn of_range(name: &str, number: u64, least: u64, most: u64) -> Option<String
     Some(format!("{name} {how}"))
 }
 
-fn of_task(task: &[u64], sets: u64) -> Names {
+fn of_task(task: &[u64], value: &Value) -> Names {
     let mut reasons = of_name(&task[NAME]);
     reasons.extend(of_times(task));
-    if of_sets(sets).is_none() {
-        reasons.extend(of_marks("UCB", &task[USEFUL], sets));
-        reasons.extend(of_marks("ECB", &task[EVICTING], sets));
+    reasons.extend(of_levels("UCB", &task[USEFUL], value));
+    if of_sets(value.sets()).is_none() {
+        reasons.extend(of_marks("ECB", &task[EVICTING], value.sets()));
     }
     reasons
+}
+
+pub fn all_of_levels(which: &str) -> [String; 3] {
+    [not_in_hex(which), past_ways(which), not_below(which)]
+}
+
+/// What is wrong with the levels of a UCB.
+pub fn of_levels(which: &str, useful: &[u64], value: &Value) -> Names {
+    let mut reasons = Names::new();
+    let levels: Vec<&[u64]> = useful.chunks_exact(WORDS).collect();
+    let is_filled = |level: &&[u64]| level.iter().any(|word| *word != 0);
+    if of_sets(value.sets()).is_none() {
+        let each = levels.iter();
+        reasons.extend(each.flat_map(|level| of_marks(which, level, value.sets())));
+    }
+    let is_outside = |pair: &[&[u64]]| {
+        let mut words = pair[0].iter().zip(pair[1]);
+        words.any(|(below, above)| above & !below != 0)
+    };
+    if levels.windows(2).any(is_outside) {
+        reasons.insert(not_below(which));
+    }
+    if FORMS.contains(&value.form()) {
+        let ways = value.form().max(1) as usize;
+        if levels[ways..].iter().any(is_filled) {
+            reasons.insert(match value.form() {
+                0 => not_in_hex(which),
+                _ => past_ways(which),
+            });
+        }
+    }
+    reasons
+}
+
+fn not_in_hex(which: &str) -> String {
+    format!("a count above 1 in {which} in hex")
+}
+
+fn past_ways(which: &str) -> String {
+    format!("a count above the ways in {which}")
+}
+
+fn not_below(which: &str) -> String {
+    format!("a set in a level of {which} and not in the one below")
 }
 
 fn of_times(task: &[u64]) -> Names {

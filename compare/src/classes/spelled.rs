@@ -5,12 +5,16 @@ use crate::model::value::{Value, ACCESS_LENGTH, BLOCKING, EXECUTION, NAME};
 use crate::model::Writing;
 use std::collections::BTreeSet;
 
-/// The longest table's, without accesses and with them.
-const LENGTHS_MOST: [usize; 2] = [6_253, 9_293];
+/// The longest table's in hex, without accesses and with them, and that of any table.
+const LENGTHS_MOST: [usize; 3] = [6_253, 9_293, 16_384];
 
 pub fn all() -> Names {
     let mut names = Names::new();
-    names.extend((4..=256).step_by(4).map(of_sets));
+    names.extend(
+        (4..=256)
+            .step_by(4)
+            .flat_map(|sets| [0, 1].map(|form| of_sets(sets, form))),
+    );
     names.extend((1..=12).map(of_name));
     names.extend((1..=9).map(of_number));
     names.extend(LENGTHS_MOST.map(of_text));
@@ -29,7 +33,7 @@ pub fn reached(value: &Value, writing: &Writing) -> Names {
     }
     let lengths_of_accesses = value.accesses().map(|access| access[ACCESS_LENGTH]);
     digits.extend(lengths_of_accesses.map(digits_of));
-    let mut names = Names::from([of_sets(value.sets())]);
+    let mut names = Names::from([of_sets(value.sets(), value.form())]);
     names.extend(lengths.into_iter().map(of_name));
     names.extend(digits.into_iter().map(of_number));
     let longest = LENGTHS_MOST.into_iter();
@@ -43,8 +47,11 @@ fn digits_of(number: u64) -> u32 {
     (1..20).find(fits).unwrap_or(20)
 }
 
-fn of_sets(sets: u64) -> String {
-    format!("{sets} sets")
+fn of_sets(sets: u64, form: u64) -> String {
+    match form {
+        0 => format!("{sets} sets in hex"),
+        _ => format!("{sets} sets with counts"),
+    }
 }
 
 fn of_name(length: usize) -> String {

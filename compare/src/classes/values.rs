@@ -2,15 +2,15 @@
 
 use super::{reasons, spelled, Names};
 use crate::model::value::{
-    access_field_name, field_name, is_marked, kind_of, Kind, Value, ACCESS_COUNT, ACCESS_PLACE,
-    ACCESS_USEFUL, COUNT, EVICTING, NAME, PLACE, RELOAD_TIME, SETS, USEFUL,
+    access_field_name, field_name, is_marked, kind_of, levels_with, Kind, Value, ACCESS_COUNT,
+    ACCESS_PLACE, ACCESS_USEFUL, COUNT, EVICTING, FORM, NAME, PLACE, RELOAD_TIME, SETS, USEFUL,
 };
 use crate::model::{Writing, ACCESSES_MOST, TASKS_MOST};
 
 /// Of the value that a text gives, and what was made of it.
 type OfChange = (&'static str, fn(&Value, &Value) -> bool);
 
-const WRITTEN: [OfChange; 17] = [
+const WRITTEN: [OfChange; 22] = [
     ("unchanged", |before, value| value == before),
     ("two tasks exchanged", are_two_exchanged),
     ("a task fewer", |before, value| {
@@ -48,6 +48,21 @@ const WRITTEN: [OfChange; 17] = [
     }),
     ("more sets", |before, value| value.sets() > before.sets()),
     ("fewer sets", |before, value| value.sets() < before.sets()),
+    ("counts in the place of hex", |before, value| {
+        before.form() == 0 && value.form() > 0
+    }),
+    ("hex in the place of counts", |before, value| {
+        before.form() > 0 && value.form() == 0
+    }),
+    ("more ways", |before, value| {
+        before.form() > 0 && value.form() > before.form()
+    }),
+    ("fewer ways", |before, value| {
+        value.form() > 0 && value.form() < before.form()
+    }),
+    ("a count of 8 in the last of 256 sets", |_, value| {
+        value.sets() == 256 && tasks(value).any(|task| levels_with(&task[USEFUL], 255) == 8)
+    }),
     ("the last set marked", |_, value| {
         let last = value.sets() - 1;
         tasks(value).any(|task| is_marked(&task[USEFUL], last) && is_marked(&task[EVICTING], last))
@@ -104,10 +119,10 @@ pub fn all() -> Names {
     names.extend(spelled::all().iter().map(|class| written(class)));
     names.extend(WRITTEN.iter().map(|class| written(class.0)));
     names.extend(REFUSED.iter().map(|class| refused(class.0)));
-    for index in [SETS, RELOAD_TIME, COUNT, ACCESS_COUNT] {
+    for index in [SETS, RELOAD_TIME, FORM, COUNT, ACCESS_COUNT] {
         names.insert(refused(&in_one_number(of_table(index))));
     }
-    for index in [SETS, RELOAD_TIME] {
+    for index in [SETS, RELOAD_TIME, FORM] {
         names.insert(written(&in_one_number(of_table(index))));
     }
     let of_access = (0..ACCESS_PLACE).map(access_field_name);
@@ -179,6 +194,7 @@ fn of_table(index: usize) -> &'static str {
     match index {
         SETS => "sets",
         RELOAD_TIME => "BRT",
+        FORM => "form",
         COUNT => "tasks",
         _ => "accesses",
     }

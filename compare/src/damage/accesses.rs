@@ -1,8 +1,10 @@
 //! Texts spoiled in or by their access lines.
 
-use super::fields::{bad_name, bad_number, bad_sets, spoil_count, spoil_shape};
+use super::fields::{
+    bad_counts, bad_name, bad_number, bad_sets, raise_count, spoil_count, spoil_shape,
+};
 use super::{Draft, OF_FIRST_LINE, OF_TASK_LINE};
-use crate::model::{Refusal, ACCESSES_MOST, TASKS_MOST};
+use crate::model::{Form, Refusal, ACCESSES_MOST, TASKS_MOST};
 use crate::random::Random;
 
 /// What may be wrong with an access line.
@@ -13,19 +15,22 @@ pub enum Wrong {
     Number,
     Range,
     Sets,
+    Count,
     UnknownTask,
     UnknownCeiling,
     CeilingBelow,
 }
 
-use Wrong::{CeilingBelow, Name, Number, Range, Sets, Shape, UnknownCeiling, UnknownTask};
+use Wrong::{CeilingBelow, Count, Name, Number, Range, Sets, Shape, UnknownCeiling, UnknownTask};
 
-const ALL: [Wrong; 8] = [
+/// In the order in which they are looked for.
+const ALL: [Wrong; 9] = [
     Shape,
     Name,
     Number,
     Range,
     Sets,
+    Count,
     UnknownTask,
     UnknownCeiling,
     CeilingBelow,
@@ -39,6 +44,7 @@ impl Wrong {
             Number => 5,
             Range => 6,
             Sets => 7,
+            Count => 18,
             UnknownTask | UnknownCeiling | CeilingBelow => 15,
         }
     }
@@ -56,7 +62,12 @@ impl Wrong {
     /// Whether a line can have both, this being the one that decides.
     fn goes_with(self, later: Wrong) -> bool {
         let in_one_field = matches!((self, later), (Number, Range) | (Name, CeilingBelow));
-        self.number() < later.number() && !in_one_field
+        self.place() < later.place() && self.number() != later.number() && !in_one_field
+    }
+
+    fn place(self) -> usize {
+        let place = ALL.iter().position(|wrong| *wrong == self);
+        place.expect("one of all")
     }
 }
 
@@ -119,7 +130,7 @@ pub fn plans() -> Vec<AccessPlan> {
         let below = [Shape, Sets, UnknownTask];
         plans.extend(below.map(|below| AccessThenAccess(wrong, below)));
     }
-    plans.extend([Shape, Name, Number, Range, Sets].map(|wrong| FirstOfAll(Some(wrong))));
+    plans.extend([Shape, Name, Number, Range, Sets, Count].map(|wrong| FirstOfAll(Some(wrong))));
     plans.extend([TaskAfter(0), TooManyAfter(0)]);
     plans.extend(OF_TASK_LINE.map(TaskAfter));
     plans.extend(OF_TASK_LINE.map(TooManyAfter));
@@ -164,6 +175,30 @@ impl AccessPlan {
             BlockedAndTooMany => "17 and 16".to_string(),
             BlockedAndTaskAfter => "17, and a task line after an access line".to_string(),
             WholeText(one, other) => format!("{one} and {other}"),
+        }
+    }
+
+    /// Whether it has to be a table with counts.
+    pub(super) fn needs_counts(self) -> bool {
+        match self {
+            Alone(one) | BeforeTooMany(one) | AccessThenTask(one) | BlockedAndAccess(one) => {
+                one == Count
+            }
+            TooMany(one) | FirstOfAll(one) => one == Some(Count),
+            Pair(one, other) | AccessThenAccess(one, other) => [one, other].contains(&Count),
+            LineThenAccess(_, kind, wrong) => kind == 18 || wrong == Count,
+            TaskAfter(kind) | TooManyAfter(kind) | BlockedAndTask(kind) => kind == 18,
+            _ => false,
+        }
+    }
+
+    /// Whether lines are added to the text until there are too many.
+    pub(super) fn adds_lines(self) -> bool {
+        match self {
+            TooMany(_) | BeforeTooMany(_) | TooManyAfter(_) | BlockedAndTooMany => true,
+            WholeText(_, kind) => kind == 16,
+            OtherAfterTasks | OtherAfterAccesses => true,
+            _ => false,
         }
     }
 
@@ -308,19 +343,19 @@ impl Draft {
     /// Gives an access line a reason for each of `wrongs`, each in fields of its own.
     fn access(&mut self, random: &mut Random, line: usize, wrongs: &[Wrong]) -> Refusal {
         let names = self.names();
-        spoil(random, &mut self.lines[line - 1], wrongs, &names);
+        spoil(random, &mut self.lines[line - 1], wrongs, &names, self.form);
         if wrongs.contains(&Shape) {
             spoil_shape(random, &mut self.lines[line - 1]);
         }
-        let least = wrongs.iter().map(|wrong| wrong.number()).min();
-        Refusal::new(least.unwrap_or(0), line as u64)
+        let first = wrongs.iter().min_by_key(|wrong| wrong.place());
+        Refusal::new(first.map_or(0, |wrong| wrong.number()), line as u64)
     }
 
     /// The same, but the first field stays, whatever the reason.
     fn access_kept(&mut self, random: &mut Random, line: usize, wrongs: &[Wrong]) {
         let names = self.names();
         let fields = &mut self.lines[line - 1];
-        spoil(random, fields, wrongs, &names);
+        spoil(random, fields, wrongs, &names, self.form);
         if wrongs.contains(&Shape) {
             spoil_count(random, fields);
         }
@@ -368,7 +403,13 @@ impl Draft {
 }
 
 /// All but another shape.
-fn spoil(random: &mut Random, fields: &mut [Vec<u8>], wrongs: &[Wrong], names: &[Vec<u8>]) {
+fn spoil(
+    random: &mut Random,
+    fields: &mut [Vec<u8>],
+    wrongs: &[Wrong],
+    names: &[Vec<u8>],
+    form: Form,
+) {
     if wrongs.contains(&CeilingBelow) {
         let task = random.below(names.len() - 1);
         let any = task + 1 + random.below(names.len() - 1 - task);
@@ -396,8 +437,14 @@ fn spoil(random: &mut Random, fields: &mut [Vec<u8>], wrongs: &[Wrong], names: &
         let past = ["0", "250000001", "250000002", "999999999"];
         fields[3] = (*random.pick(&past)).into();
     }
+    if wrongs.contains(&Count) {
+        raise_count(random, &mut fields[4], wrongs.contains(&Sets));
+    }
     if wrongs.contains(&Sets) {
-        fields[4] = bad_sets(random, &fields[4]);
+        fields[4] = match form {
+            Form::Hex => bad_sets(random, &fields[4]),
+            Form::Counted(_) => bad_counts(random, &fields[4]),
+        };
     }
 }
 

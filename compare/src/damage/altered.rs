@@ -7,7 +7,9 @@ use crate::random::Random;
 
 /// A text of about the greatest length that is looked into.
 pub fn about_longest(random: &mut Random) -> Vec<u8> {
-    let mut draft = Draft::of_table(random, |_| true);
+    let mut draft = Draft::of_table(random, |table| {
+        table.has_room_for(TASKS_MOST, table.accesses.len())
+    });
     if random.chance(50) {
         draft.fill_up(random, TASKS_MOST);
     }
@@ -71,11 +73,13 @@ fn with_field_altered(random: &mut Random, text: &[u8]) -> Vec<u8> {
 
 /// Drops, doubles, exchanges or replaces one of the parts between two marks.
 fn with_part_altered(random: &mut Random, text: &[u8], mark: u8) -> Vec<u8> {
-    const FIELDS: [&str; 13] = [
+    const FIELDS: [&str; 15] = [
         "0",
         "1",
         "4",
         "5",
+        "8",
+        "9",
         "256",
         "100000",
         "250000000",

@@ -1,6 +1,7 @@
 //! Accesses of made-up tables.
 
-use super::{any_block, block, scattered, Access, Table, TIME_MOST};
+use super::{any_block, count, scattered, Access, Table, TIME_MOST};
+use crate::model::Form;
 use crate::random::Random;
 
 pub const ACCESSES_MOST: u64 = 32;
@@ -24,14 +25,18 @@ pub fn perhaps_share_little(random: &mut Random, table: &mut Table) {
     }
 }
 
-/// Gives the table `count` accesses, and every task a B of 0, as a table with accesses wants it.
+/// Gives the table `count` accesses, or as many as there is room for, and every task a B of 0, as a
+/// table with accesses wants it.
 pub fn share(random: &mut Random, table: &mut Table, count: u64) {
     for task in &mut table.tasks {
         task.blocking = 0;
     }
     // all of one task, with the same ceiling, or most as they come
     let alike = random.chance(15);
-    for _ in 0..count {
+    for index in 0..count as usize {
+        if !table.has_room_for(table.tasks.len(), index + 1) {
+            break;
+        }
         let access = match table.accesses.last() {
             Some(last) if alike => exchanged(random, table, last),
             Some(last) if random.chance(40) => like(random, table, last),
@@ -73,28 +78,36 @@ fn any_length(random: &mut Random, table: &Table, ceiling: usize) -> u64 {
     }
 }
 
-/// None or all sets, some of the task's or all of them, only such as are useful to no task, or any.
-fn any_useful(random: &mut Random, table: &Table, task: usize) -> Vec<bool> {
+/// None or all sets, some of the task's or all of them, only such as are useful to no task, or any; or as
+/// many blocks as the tasks leave room for, or one more.
+fn any_useful(random: &mut Random, table: &Table, task: usize) -> Vec<usize> {
     let sets = table.sets;
     let of_task = &table.tasks[task].useful;
-    match random.below(8) {
+    let marks = match random.below(9) {
         0 => vec![false; sets],
         1 => vec![true; sets],
-        2 => of_task.clone(),
+        2 => return of_task.clone(),
         3 => of_task
             .iter()
-            .map(|set| *set && random.chance(60))
+            .map(|count| *count > 0 && random.chance(60))
             .collect(),
         4 => {
-            let to_any = |set: usize| table.tasks.iter().any(|task| task.useful[set]);
+            let to_any = |set: usize| table.tasks.iter().any(|task| task.useful[set] > 0);
             (0..sets).map(|set| !to_any(set)).collect()
         }
         5 => any_block(random, sets),
+        6 if table.form != Form::Hex => {
+            let (ways, more) = (table.ways(), random.below(2));
+            let of_all = |set: usize| table.tasks.iter().map(|task| task.useful[set]).sum();
+            let left = |taken: usize| (ways.saturating_sub(taken) + more).min(ways);
+            return (0..sets).map(|set| left(of_all(set))).collect();
+        }
         _ => {
             let percent = *random.pick(&[10, 40, 80]);
             scattered(random, sets, percent)
         }
-    }
+    };
+    count(random, table.form, marks)
 }
 
 /// An access like another one: that of another task, with another ceiling, or with other marks.
@@ -111,19 +124,18 @@ fn like(random: &mut Random, table: &Table, other: &Access) -> Access {
     access
 }
 
-/// The same again, one with as many marks elsewhere, or one that has more to reload and is shorter by
+/// The same again, one with as many blocks elsewhere, or one that has more to reload and is shorter by
 /// as much as one or two pre-emptions make of that.
 fn exchanged(random: &mut Random, table: &Table, other: &Access) -> Access {
     let mut access = other.clone();
     match random.below(4) {
         0 => {}
         1 => {
-            let start = random.below(table.sets);
-            access.useful = block(table.sets, start, count(&access.useful));
+            access.useful.rotate_left(random.below(table.sets));
         }
         _ => {
             access.useful = any_useful(random, table, access.task);
-            let more = count(&access.useful).saturating_sub(count(&other.useful)) as u64;
+            let more = blocks(&access.useful).saturating_sub(blocks(&other.useful)) as u64;
             let reloads = random.between(1, 2) * more * table.reload_time;
             access.length = access.length.saturating_sub(reloads).max(1);
         }
@@ -131,8 +143,8 @@ fn exchanged(random: &mut Random, table: &Table, other: &Access) -> Access {
     access
 }
 
-pub fn count(sets: &[bool]) -> usize {
-    sets.iter().filter(|set| **set).count()
+fn blocks(counts: &[usize]) -> usize {
+    counts.iter().sum()
 }
 
 /// The lengths of all accesses at or beside an end of their range.

@@ -1,7 +1,7 @@
 //! The families of made-up tables.
 
 use super::accesses::{perhaps_share, perhaps_share_little, share, take_end_lengths};
-use super::{any_sets, block, periods, rename, with_load};
+use super::{any_sets, block, ones, periods, rename, with_load};
 use super::{Access, Table, Task, ACCESSES_MOST, TASKS_MOST, TIME_MOST};
 use crate::model;
 use crate::random::Random;
@@ -75,7 +75,8 @@ pub fn shared(random: &mut Random) -> Table {
 /// nearly so. The highest task evicts the upper half of the cache and the next one the lower half, of
 /// which the third task has some blocks. The first access has `half` other ones of these and the
 /// second has `more` in the upper half, so that in blocks the first costs 2 `half` and `half`, by
-/// UCB-Union and by ECB-Union, and the second `half` + `more` and twice `more`.
+/// UCB-Union and by ECB-Union, and the second `half` + `more` and twice `more`, where each of these sets
+/// has one useful block.
 pub fn crossed(random: &mut Random) -> Table {
     let half = random.between(1, 4) as usize;
     let (sets, reload_time) = (8 * half.max(2), random.between(1, 4));
@@ -83,15 +84,20 @@ pub fn crossed(random: &mut Random) -> Table {
     let mut table = with_load(random, sets, reload_time, &periods, 150);
     for task in &mut table.tasks {
         (task.deadline, task.jitter, task.blocking) = (task.period, 0, 0);
-        task.useful = vec![false; sets];
+        task.useful = vec![0; sets];
     }
     table.tasks[0].evicting = block(sets, sets / 2, sets / 2);
     table.tasks[1].evicting = block(sets, 0, sets / 2);
-    table.tasks[2].useful = block(sets, 0, half);
+    let each = random.between(1, table.ways() as u64);
+    let blocks = |start, length| {
+        let ones = ones(block(sets, start, length)).into_iter();
+        ones.map(|one| one * each as usize).collect()
+    };
+    table.tasks[2].useful = blocks(0, half);
     let more = random.between(half as u64, (sets / 2) as u64);
     let (least, most) = (more - half as u64, 2 * more - half as u64);
     let any = random.between(least, most);
-    let longer = reload_time * *random.pick(&[least, any, any, any, most]);
+    let longer = reload_time * each * *random.pick(&[least, any, any, any, most]);
     let length = random.between(1, 30);
     let of_last = |length, useful| Access {
         task: 3,
@@ -100,8 +106,8 @@ pub fn crossed(random: &mut Random) -> Table {
         useful,
     };
     table.accesses = vec![
-        of_last(length + longer, block(sets, half, half)),
-        of_last(length, block(sets, sets / 2, more as usize)),
+        of_last(length + longer, blocks(half, half)),
+        of_last(length, blocks(sets / 2, more as usize)),
     ];
     if random.chance(50) {
         table.accesses.reverse();

@@ -2,8 +2,9 @@
 
 use super::accesses::perhaps_share_little;
 use super::families::{loaded, shared, small, unions};
-use super::{periods, with_load, Table, Task, TIME_MOST};
-use crate::model::{self, Row};
+use super::{block, count, periods, scattered, with_load};
+use super::{Access, Table, Task, TASKS_MOST, TIME_MOST};
+use crate::model::{self, Form, Row, TEXT_MOST, WAYS_MOST};
 use crate::random::Random;
 use std::cmp::Ordering;
 
@@ -60,6 +61,71 @@ pub fn nearly_refused(random: &mut Random) -> Table {
     let k = *random.pick(&[1_000, 1_001, any, any, 3_999, 4_000]);
     let execution = TIME_MOST * 1_000 / k;
     table.tasks[0].execution = execution - random.between(0, 1).min(execution - 1);
+    table
+}
+
+/// A table whose text has as many bytes as a text may have, or some fewer, so that few execution times or
+/// none may have a digit more.
+pub fn nearly_too_long(random: &mut Random) -> Table {
+    let spare = *random.pick(&[0, 1, 1, 2, 2, 3, 4, 6, 50]);
+    as_long_as(random, TEXT_MOST - spare)
+}
+
+/// A table with counts whose text has as many bytes as a text may have.
+pub fn longest_counted(random: &mut Random) -> Table {
+    as_long_as(random, TEXT_MOST)
+}
+
+/// A table with counts whose text has so many bytes: tasks that have all the time there is, as many
+/// accesses as there is room for, and then jitters and lengths of as many digits as are missing.
+fn as_long_as(random: &mut Random, length: usize) -> Table {
+    const ACCESS_LINE: usize = 275;
+    let sets = 256;
+    let mut table = Table {
+        sets,
+        reload_time: random.between(0, 1),
+        form: Form::Counted(random.between(1, WAYS_MOST)),
+        tasks: Vec::new(),
+        accesses: Vec::new(),
+    };
+    let useful = |random: &mut Random, form: Form| {
+        let percent = *random.pick(&[0, 0, 5, 100]);
+        let marks = scattered(random, sets, percent);
+        count(random, form, marks)
+    };
+    for index in 0..random.between(23, TASKS_MOST) {
+        table.tasks.push(Task {
+            name: format!("t{index}"),
+            execution: *random.pick(&[1, 1, 2, 3, 9, 10]),
+            period: TIME_MOST,
+            deadline: TIME_MOST,
+            jitter: 0,
+            blocking: 0,
+            useful: useful(random, table.form),
+            evicting: block(sets, 0, random.below(3)),
+        });
+    }
+    while table.text().len() + ACCESS_LINE < length {
+        let task = random.below(table.tasks.len());
+        table.accesses.push(Access {
+            task,
+            ceiling: random.below(task + 1),
+            length: 1,
+            useful: useful(random, table.form),
+        });
+    }
+    let missing = |table: &Table| length - table.text().len();
+    let digits_more = |table: &Table| match missing(table).min(8) {
+        0 => None,
+        more => Some(10u64.pow(more as u32)),
+    };
+    for position in 0..table.tasks.len() {
+        table.tasks[position].jitter = digits_more(&table).unwrap_or(0);
+    }
+    for place in 0..table.accesses.len() {
+        table.accesses[place].length = digits_more(&table).unwrap_or(1);
+    }
+    assert_eq!(missing(&table), 0, "it has as many bytes as it should have");
     table
 }
 

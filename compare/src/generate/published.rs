@@ -1,7 +1,7 @@
 //! Tables for the benchmark: those of the published evaluation, and those that are hard to answer.
 
-use super::accesses::count as marks;
-use super::{block, names, Access, Table, Task, TASKS_MOST, TIME_MOST};
+use super::{block, names, ones, Access, Table, Task, TASKS_MOST, TIME_MOST};
+use crate::model::Form;
 use crate::random::Random;
 
 /// The base configuration of the published evaluation, with `tasks` tasks and ticks of a
@@ -26,7 +26,7 @@ pub fn published(random: &mut Random, tasks: usize, fineness: f64, utilisation: 
             deadline: period,
             jitter: 0,
             blocking: 0,
-            useful: block(sets, start, reused),
+            useful: ones(block(sets, start, reused)),
             evicting: block(sets, start, used),
         }
     });
@@ -35,6 +35,7 @@ pub fn published(random: &mut Random, tasks: usize, fineness: f64, utilisation: 
     Table {
         sets,
         reload_time: (8.0 * fineness) as u64,
+        form: Form::Hex,
         tasks,
         accesses: Vec::new(),
     }
@@ -50,14 +51,26 @@ pub fn share_as_published(random: &mut Random, table: &mut Table, count: usize) 
         let ceiling = random.below(task + 1);
         let shared = &table.tasks[ceiling];
         let length = random.between(1, shared.execution);
-        let useful = marks(&shared.useful);
+        let useful = shared.useful.iter().filter(|count| **count > 0).count();
         let access = Access {
             task,
             ceiling,
             length,
-            useful: block(table.sets, random.below(table.sets), useful),
+            useful: ones(block(table.sets, random.below(table.sets), useful)),
         };
         table.accesses.push(access);
+    }
+}
+
+/// Gives a table so many ways, and each of its useful sets a block or more.
+pub fn count_as_published(random: &mut Random, table: &mut Table, ways: u64) {
+    table.form = Form::Counted(ways);
+    let of_tasks = table.tasks.iter_mut().map(|task| &mut task.useful);
+    let of_accesses = table.accesses.iter_mut().map(|access| &mut access.useful);
+    for count in of_tasks.chain(of_accesses).flatten() {
+        if *count > 0 {
+            *count = random.between(1, ways) as usize;
+        }
     }
 }
 
@@ -78,7 +91,7 @@ fn uunifast(random: &mut Random, count: usize, total: f64) -> Vec<f64> {
 pub fn no_tick_left(above: usize, longest: u64) -> Table {
     let mut periods = vec![1; above];
     periods.resize(TASKS_MOST as usize, longest);
-    ones(&periods)
+    of_ones(&periods)
 }
 
 /// Tasks that together leave one tick in 3,263,442, above `below` others with `longest` ticks of
@@ -86,7 +99,7 @@ pub fn no_tick_left(above: usize, longest: u64) -> Table {
 pub fn hardly_a_tick_left(below: usize, longest: u64) -> Table {
     let mut periods = vec![2, 3, 7, 43, 1_807];
     periods.resize(5 + below, longest);
-    ones(&periods)
+    of_ones(&periods)
 }
 
 /// The same above a task with a C of 1 that accesses of these lengths may block.
@@ -96,27 +109,28 @@ pub fn hardly_a_tick_left_if_blocked(lengths: &[u64], longest: u64) -> Table {
         task: 6,
         ceiling: 5,
         length: *length,
-        useful: vec![false; table.sets],
+        useful: vec![0; table.sets],
     });
     table.accesses = accesses.collect();
     table
 }
 
-fn ones(periods: &[u64]) -> Table {
-    let task = |(index, period): (usize, &u64)| Task {
+fn of_ones(periods: &[u64]) -> Table {
+    let one = |(index, period): (usize, &u64)| Task {
         name: format!("t{index}"),
         execution: 1,
         period: *period,
         deadline: *period,
         jitter: 0,
         blocking: 0,
-        useful: vec![false; 256],
+        useful: vec![0; 256],
         evicting: vec![false; 256],
     };
     Table {
         sets: 256,
         reload_time: 8,
-        tasks: periods.iter().enumerate().map(task).collect(),
+        form: Form::Hex,
+        tasks: periods.iter().enumerate().map(one).collect(),
         accesses: Vec::new(),
     }
 }

@@ -23,6 +23,7 @@ impl Comparison {
             (90, &generate::finely_in_time),
             (70, &generate::nearly_refused),
             (70, &generate::by_either_union),
+            (130, &generate::nearly_too_long),
         ]);
         let share = |texts| self.options.share(texts) as usize;
         let common = spread(&valid.common, share(200)).chain(spread(&valid.extreme, share(60)));

@@ -9,7 +9,7 @@ use crpd_compare::model::{Outcome, Worker};
 use crpd_compare::random::Random;
 
 /// No text that is written is longer.
-const LONGEST: usize = 9_293;
+const LONGEST: usize = 16_384;
 
 /// The lengths of the buffers that calls are made alone with: one for every text, and one that is too
 /// short for many.

@@ -25,7 +25,8 @@ impl Comparison {
         let mut group = Group::new("laws of unions and sizes of cache sets");
         for _ in 0..self.options.share(300) {
             let [u, a, b, c] = [(); 4].map(|_| generate::any_cache_sets(&mut self.random));
-            if let Some(difference) = group.count(sets::laws([&u, &a, &b, &c])) {
+            let (form, counts) = generate::any_counts(&mut self.random);
+            if let Some(difference) = group.count(sets::laws([&u, &a, &b, &c], (form, &counts))) {
                 tell_difference(group.name, &difference);
             }
         }

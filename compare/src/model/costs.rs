@@ -2,21 +2,22 @@
 
 use super::blocking::Blocker;
 use super::order::Orders;
-use super::{Error, Table, Task};
+use super::{Error, Table};
 use std::ops::Range;
 
 pub const METHODS: u64 = 6;
 
 /// The tasks and accesses of a table, seen from the cache sets.
 ///
-/// A cache set lies in a union over some of them if one of these is among its users; no union has to
-/// be formed. A user is a number: that of a task is its position, and the accesses go on from there.
+/// Each cache set knows its users and how many useful blocks each of them has there, so that what
+/// several of them have together is added up for a single set; no union has to be formed. A user is a
+/// number: that of a task is its position, and the accesses go on from there.
 pub struct Reloads<'a> {
     pub table: &'a Table,
     pub orders: Orders,
-    /// For each cache set the users it is useful to, as their union takes them.
-    useful_to: Vec<Vec<usize>>,
-    /// For each user and each j: how many of the sets useful to it the tasks from 0 to j evict.
+    /// For each cache set the users it is useful to, each with its count, as their sum takes them.
+    useful_to: Vec<Vec<(usize, usize)>>,
+    /// For each user and each j: how many of its useful blocks the tasks from 0 to j evict.
     evicted_down_to: Vec<Vec<usize>>,
     error: Option<Error>,
 }
@@ -57,9 +58,11 @@ impl<'a> Reloads<'a> {
             table.tasks.iter().map(|task| &task.evicting).collect();
         let all_useful = all_useful(table);
         let evicted_by = users(table.sets, &orders.evicting_union, &all_evicting);
-        let evicted = |useful: &[usize], j: usize| {
-            let is_evicted = |set: &&usize| evicted_by[**set].iter().any(|evicting| *evicting <= j);
-            useful.iter().filter(is_evicted).count()
+        let evicted = |useful: &[usize], j: usize| -> usize {
+            let is_evicted = |set: usize| evicted_by[set].iter().any(|evicting| *evicting <= j);
+            let counts = useful.iter().enumerate();
+            let lost = counts.filter(|(set, _)| is_evicted(*set));
+            lost.map(|(_, count)| count).sum()
         };
         let evicted_down_to = all_useful.iter().map(|useful| {
             let counts = (0..table.tasks.len()).map(|j| evicted(useful, j));
@@ -68,7 +71,7 @@ impl<'a> Reloads<'a> {
         Reloads {
             table,
             evicted_down_to: evicted_down_to.collect(),
-            useful_to: users(table.sets, &orders.useful_union, &all_useful),
+            useful_to: counts(table.sets, &orders.useful_union, &all_useful),
             orders,
             error,
         }
@@ -78,8 +81,11 @@ impl<'a> Reloads<'a> {
     pub fn count(&self, method: u64, i: usize, j: usize, blocker: &Blocker) -> usize {
         match method {
             0 => 0,
-            1 => self.table.tasks[j].evicting.len(),
-            3 => self.useful_to_any(&self.affected(method, i, j, blocker), j),
+            1 => match self.error {
+                Some(Error::ForgetsWays) => self.table.tasks[j].evicting.len(),
+                _ => self.table.tasks[j].evicting.len() * self.table.form.ways(),
+            },
+            3 => self.useful_to_all(&self.affected(method, i, j, blocker), j),
             _ => {
                 let values = self.values(method, i, j, blocker);
                 values.into_iter().max().unwrap_or(0)
@@ -125,10 +131,7 @@ impl<'a> Reloads<'a> {
 
     fn value(&self, method: u64, user: usize, j: usize) -> usize {
         match method {
-            2 => match user.checked_sub(self.table.tasks.len()) {
-                None => self.table.tasks[user].useful.len(),
-                Some(access) => self.table.accesses[access].useful.len(),
-            },
+            2 => all_useful(self.table)[user].iter().sum(),
             4 => self.evicted_down_to[user][j],
             _ => unreachable!("no value of a single task"),
         }
@@ -166,10 +169,27 @@ impl<'a> Reloads<'a> {
         }
     }
 
-    /// How many of the sets that `j` evicts are useful to one of those affected.
-    fn useful_to_any(&self, affected: &Affected, j: usize) -> usize {
-        let hurts = |set: &&usize| self.useful_to[**set].iter().any(|user| affected.has(user));
-        self.table.tasks[j].evicting.iter().filter(hurts).count()
+    /// How many useful blocks those affected have together in the sets that `j` evicts; a set holds no
+    /// more than there are ways.
+    fn useful_to_all(&self, affected: &Affected, j: usize) -> usize {
+        let ways = self.table.form.ways();
+        let is_task = |user: usize| user < self.table.tasks.len();
+        let blocks = |set: &usize| -> usize {
+            let users = self.useful_to[*set].iter();
+            let users = users.filter(|(user, _)| affected.has(user));
+            let sum: usize = users.clone().map(|(_, count)| count).sum();
+            match self.error {
+                Some(Error::AddsWithoutCap) => sum,
+                Some(Error::CapsEachAlone) => users.map(|(_, count)| *count.min(&ways)).sum(),
+                Some(Error::CapsTasksAlone) => {
+                    let of_tasks = users.filter(|(user, _)| is_task(*user));
+                    let of_tasks: usize = of_tasks.map(|(_, count)| count).sum();
+                    of_tasks.min(ways) + (sum - of_tasks)
+                }
+                _ => sum.min(ways),
+            }
+        };
+        self.table.tasks[j].evicting.iter().map(blocks).sum()
     }
 }
 
@@ -178,11 +198,20 @@ pub fn tells_values(method: u64) -> bool {
     matches!(method, 2 | 4)
 }
 
-/// The sets useful to each user, in the order of their numbers.
+/// The counts of each user, in the order of their numbers.
 fn all_useful(table: &Table) -> Vec<&Vec<usize>> {
-    let of_tasks = table.tasks.iter().map(|task: &Task| &task.useful);
+    let of_tasks = table.tasks.iter().map(|task| &task.useful);
     let of_accesses = table.accesses.iter().map(|access| &access.useful);
     of_tasks.chain(of_accesses).collect()
+}
+
+/// For each cache set its users, in the order given, each with how many useful blocks it has there.
+fn counts(sets: usize, order: &[usize], of_each: &[&Vec<usize>]) -> Vec<Vec<(usize, usize)>> {
+    let of_set = |set: usize| {
+        let counts = order.iter().map(|user| (*user, of_each[*user][set]));
+        counts.filter(|(_, count)| *count > 0).collect()
+    };
+    (0..sets).map(of_set).collect()
 }
 
 /// For each cache set its users, in the order given, of which each has the sets in its place.
@@ -230,13 +259,18 @@ mod tests {
     /// The UCBs of aff(i, j), with that of an access which `j` may pre-empt.
     fn useful_of_affected(table: &Table, i: usize, j: usize, blocker: &Blocker) -> Vec<Vec<usize>> {
         let tasks = table.tasks[j + 1..=i].iter();
-        let mut sets: Vec<Vec<usize>> = tasks.map(|task| task.useful.clone()).collect();
+        let mut counts: Vec<Vec<usize>> = tasks.map(|task| task.useful.clone()).collect();
         for access in &blocker.accesses {
             if j < table.accesses[*access].ceiling {
-                sets.push(table.accesses[*access].useful.clone());
+                counts.push(table.accesses[*access].useful.clone());
             }
         }
-        sets
+        counts
+    }
+
+    /// What a set of counts has in some cache sets.
+    fn met(counts: &[usize], sets: &Sets) -> usize {
+        sets.iter().map(|set| counts[*set]).sum()
     }
 
     #[test]
@@ -244,18 +278,20 @@ mod tests {
         each_pair(1, |table, reloads, i, j, blocker| {
             let tasks = &table.tasks;
             let each = useful_of_affected(table, i, j, blocker);
-            let useful = union(each.iter());
+            let ways = table.form.ways();
+            let mut together = vec![0; table.sets];
+            for counts in &each {
+                for (sum, count) in together.iter_mut().zip(counts) {
+                    *sum = ways.min(*sum + count);
+                }
+            }
             let evicting = union(std::iter::once(&tasks[j].evicting));
-            let met = useful.intersection(&evicting).count();
-            assert_eq!(reloads.count(3, i, j, blocker), met);
+            assert_eq!(reloads.count(3, i, j, blocker), met(&together, &evicting));
+            assert_eq!(reloads.count(1, i, j, blocker), evicting.len() * ways);
             let evicted = union(tasks[..=j].iter().map(|task| &task.evicting));
-            let met_by = |useful: &Vec<usize>| {
-                let useful = union(std::iter::once(useful));
-                useful.intersection(&evicted).count()
-            };
-            let largest = each.iter().map(met_by).max();
+            let largest = each.iter().map(|counts| met(counts, &evicted)).max();
             assert_eq!(Some(reloads.count(4, i, j, blocker)), largest);
-            let largest = each.iter().map(Vec::len).max();
+            let largest = each.iter().map(|counts| counts.iter().sum()).max();
             assert_eq!(Some(reloads.count(2, i, j, blocker)), largest);
         });
     }

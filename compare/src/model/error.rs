@@ -162,6 +162,39 @@ pub enum Error {
     LeavesOneOut(Sum),
     /// 82: a worker leaves the end of what it printed last behind a shorter text.
     LeavesLastText,
+    /// 83: in method 3 the counts of a set are added up and not capped.
+    AddsWithoutCap,
+    /// 84: in method 3 each count is capped, and their sum is not. As no count is above the ways, this
+    /// gives what 83 does.
+    CapsEachAlone,
+    /// 85: in method 3 the sum over the tasks is capped before the access's count is added.
+    CapsTasksAlone,
+    /// 86: in method 1 the size is not multiplied by the ways.
+    ForgetsWays,
+    /// 87: the first digit of a counted field is that of the lowest set.
+    CountsFromLowestSet,
+    /// 88: 18 comes before 7.
+    LooksAtCountsFirst,
+    /// 89: 18 comes after 8.
+    LooksAtOrderOfTimesFirst,
+    /// 90: 18 comes after 15.
+    LooksUpNamesBeforeCounts,
+    /// 91: a field in hex is good in a table with counts as well.
+    TakesHexFields,
+    /// 92: a counted field may have the digits a to f.
+    TakesHexDigits,
+    /// 93: there may be nine ways.
+    TakesNineWays,
+    /// 94: a table with counts and one way is written without them.
+    ForgetsForm,
+    /// 95: the counts of a written table start from the lowest set.
+    WritesCountsFromLowestSet,
+    /// 96: a table value is written, without the surplus, though a count is above the ways.
+    OverlooksHighCounts,
+    /// 97: a table value is written though its text is too long.
+    OverlooksLength,
+    /// 98: a scaled table passes though its text is too long.
+    LetsLongPass,
 }
 
 /// What of the model an error is built into.
@@ -180,7 +213,7 @@ pub enum Part {
 
 use Part::{Answering, Explaining, Growing, Reading, Summing, Working, Writing};
 
-const ERRORS: [(&str, Error, Part); 83] = [
+const ERRORS: [(&str, Error, Part); 99] = [
     ("1", Error::StartsFromGuess, Answering),
     ("2", Error::JudgesAtLimit, Answering),
     ("3", Error::CombinesPerPair, Answering),
@@ -264,6 +297,22 @@ const ERRORS: [(&str, Error, Part); 83] = [
     ("80", Error::LeavesOneOut(Sum::EvictingUnion), Summing),
     ("81", Error::LeavesOneOut(Sum::Largest), Summing),
     ("82", Error::LeavesLastText, Working),
+    ("83", Error::AddsWithoutCap, Answering),
+    ("84", Error::CapsEachAlone, Answering),
+    ("85", Error::CapsTasksAlone, Answering),
+    ("86", Error::ForgetsWays, Answering),
+    ("87", Error::CountsFromLowestSet, Reading),
+    ("88", Error::LooksAtCountsFirst, Reading),
+    ("89", Error::LooksAtOrderOfTimesFirst, Reading),
+    ("90", Error::LooksUpNamesBeforeCounts, Reading),
+    ("91", Error::TakesHexFields, Reading),
+    ("92", Error::TakesHexDigits, Reading),
+    ("93", Error::TakesNineWays, Reading),
+    ("94", Error::ForgetsForm, Writing),
+    ("95", Error::WritesCountsFromLowestSet, Writing),
+    ("96", Error::OverlooksHighCounts, Writing),
+    ("97", Error::OverlooksLength, Writing),
+    ("98", Error::LetsLongPass, Growing),
 ];
 
 impl Error {

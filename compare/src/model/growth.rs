@@ -7,7 +7,7 @@
 
 use super::blocking::blockers;
 use super::costs::{Reloads, METHODS};
-use super::read::read_with;
+use super::read::{read_of_any_length, read_with};
 use super::report::equation;
 use super::{fitting, Error, Refusal, Table};
 
@@ -81,12 +81,19 @@ impl<'a> Growing<'a> {
 
     /// Why its text is refused, if it is.
     pub fn refusal(&self, k: u64) -> Option<Refusal> {
-        read_with(&self.text(k), self.error).err()
+        self.read(&self.text(k)).err()
+    }
+
+    fn read(&self, scaled: &[u8]) -> Result<Table, Refusal> {
+        match self.error {
+            Some(Error::LetsLongPass) => read_of_any_length(scaled, self.error),
+            _ => read_with(scaled, self.error),
+        }
     }
 
     /// Whether k passes: the text is accepted, and every task has a response.
     pub fn passes(&self, method: u64, k: u64) -> bool {
-        match read_with(&self.text(k), self.error) {
+        match self.read(&self.text(k)) {
             Ok(scaled) => self.verdict(&scaled, method),
             Err(_) => self.error == Some(Error::LetsRefusedPass),
         }
@@ -94,7 +101,7 @@ impl<'a> Growing<'a> {
 
     /// The positions of the tasks that have no response with an accepted k.
     pub fn late(&self, method: u64, k: u64) -> Vec<usize> {
-        let scaled = match read_with(&self.text(k), self.error) {
+        let scaled = match self.read(&self.text(k)) {
             Ok(scaled) => scaled,
             Err(_) => return Vec::new(),
         };
@@ -125,7 +132,7 @@ impl<'a> Growing<'a> {
 
     fn passing(&self, text: &[u8]) -> Passing {
         let mut passing = Passing::default();
-        match read_with(text, self.error) {
+        match self.read(text) {
             Ok(scaled) => {
                 for (passes, method) in passing.iter_mut().zip(0..) {
                     *passes = self.verdict(&scaled, method);

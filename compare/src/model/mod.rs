@@ -1,7 +1,7 @@
 //! The independent implementation of the rules.
 //!
-//! It shares nothing with the proved code but the rules: cache sets are sorted lists of numbers,
-//! unions are asked member by member, the text is taken apart by the standard library, a response
+//! It shares nothing with the proved code but the rules: evicting sets are sorted lists of numbers,
+//! useful ones a number for each cache set, unions and sums are asked member by member, the text is taken apart by the standard library, a response
 //! is found by trying every number where the limit is small, each access that may block a task has an
 //! equation of its own, whether a text gives a table value is found by reading what the value spells,
 //! and a growth by reading the table of every k. The members of a sum or of a union may be taken in any
@@ -25,7 +25,7 @@ pub use error::{Error, Part};
 pub use explain::{Case, Explanation, Interference, FIGURE_MOST};
 pub use growth::{Growing, Growths, GROWTH_MOST};
 pub use order::Sum;
-pub use read::{read, Access, Table, Task, ACCESSES_MOST, TASKS_MOST, TEXT_MOST};
+pub use read::{read, Access, Form, Table, Task, ACCESSES_MOST, TASKS_MOST, TEXT_MOST, WAYS_MOST};
 pub use report::{analyse, Analysis, Row};
 pub use worker::Worker;
 pub use write::Writing;

@@ -3,6 +3,7 @@
 use super::{Error, Refusal};
 
 pub const TEXT_MOST: usize = 16_384;
+pub const WAYS_MOST: u64 = 8;
 pub const TASKS_MOST: usize = 32;
 pub const ACCESSES_MOST: usize = 32;
 const TIME_MOST: u64 = 250_000_000;
@@ -14,9 +15,28 @@ const DIGITS_MOST: usize = 9;
 pub struct Table {
     pub sets: usize,
     pub reload_time: u64,
+    pub form: Form,
     pub tasks: Vec<Task>,
     /// In the order of their lines.
     pub accesses: Vec<Access>,
+}
+
+/// How the useful sets of a table are spelled.
+#[derive(Clone, Copy, Debug, PartialEq, Eq)]
+pub enum Form {
+    /// Line 1 has three fields: there is one way, and a hex digit says of four sets which are useful.
+    Hex,
+    /// Line 1 has a fourth field, the ways: a digit counts the useful blocks of each set.
+    Counted(u64),
+}
+
+impl Form {
+    pub fn ways(self) -> usize {
+        match self {
+            Form::Hex => 1,
+            Form::Counted(ways) => ways as usize,
+        }
+    }
 }
 
 #[derive(Clone, Debug, PartialEq, Eq)]
@@ -27,7 +47,7 @@ pub struct Task {
     pub deadline: u64,
     pub jitter: u64,
     pub blocking: u64,
-    /// Cache sets in rising order.
+    /// By cache set how many useful blocks it has.
     pub useful: Vec<usize>,
     /// Cache sets in rising order.
     pub evicting: Vec<usize>,
@@ -41,7 +61,7 @@ pub struct Access {
     /// The position of the highest task that uses the device.
     pub ceiling: usize,
     pub length: u64,
-    /// Cache sets in rising order.
+    /// By cache set how many useful blocks it has.
     pub useful: Vec<usize>,
 }
 
@@ -56,13 +76,20 @@ pub fn read_with(text: &[u8], error: Option<Error>) -> Result<Table, Refusal> {
     if text.len() > TEXT_MOST {
         return Err(Refusal::new(1, 0));
     }
+    read_of_any_length(text, error)
+}
+
+/// The same without refusal 1.
+pub fn read_of_any_length(text: &[u8], error: Option<Error>) -> Result<Table, Refusal> {
     let body = text.strip_suffix(b"\n").ok_or(Refusal::new(2, 0))?;
     let mut lines = body.split(|byte| *byte == b'\n');
     let first = lines.next().unwrap_or(&[]);
-    let (sets, reload_time) = cache_line(first).map_err(|number| Refusal::new(number, 1))?;
+    let read = cache_line(first, error);
+    let (sets, reload_time, form) = read.map_err(|number| Refusal::new(number, 1))?;
     let mut table = Table {
         sets,
         reload_time,
+        form,
         tasks: Vec::new(),
         accesses: Vec::new(),
     };
@@ -82,16 +109,25 @@ pub fn read_with(text: &[u8], error: Option<Error>) -> Result<Table, Refusal> {
     Ok(table)
 }
 
-fn cache_line(line: &[u8]) -> Result<(usize, u64), Number> {
+fn cache_line(line: &[u8], error: Option<Error>) -> Result<(usize, u64, Form), Number> {
     let fields = split(line);
-    if fields[0] != b"K" || fields.len() != 3 {
+    if fields[0] != b"K" || !(3..=4).contains(&fields.len()) {
         return Err(3);
     }
     let numbers = numbers(&fields[1..])?;
     let (sets, reload_time) = (numbers[0], numbers[1]);
+    let ways_most = match error {
+        Some(Error::TakesNineWays) => WAYS_MOST + 1,
+        _ => WAYS_MOST,
+    };
+    let form = match numbers.get(2) {
+        None => Form::Hex,
+        Some(ways) if (1..=ways_most).contains(ways) => Form::Counted(*ways),
+        Some(_) => return Err(6),
+    };
     let in_range = (4..=256).contains(&sets) && sets % 4 == 0 && reload_time <= RELOAD_TIME_MOST;
     if in_range {
-        Ok((sets as usize, reload_time))
+        Ok((sets as usize, reload_time, form))
     } else {
         Err(6)
     }
@@ -136,8 +172,16 @@ fn task_line(table: &Table, fields: &[&[u8]], error: Option<Error>) -> Result<Ta
     if too_small || too_large {
         return Err(6);
     }
-    let useful = cache_sets(fields[7], table.sets).ok_or(7u64)?;
-    let evicting = cache_sets(fields[8], table.sets).ok_or(7u64)?;
+    let useful = useful_sets(fields[7], table, error).ok_or(7u64);
+    let evicting = cache_sets(fields[8], table.sets).ok_or(7u64);
+    if error == Some(Error::LooksAtCountsFirst) && has_high_digit(fields[7], table) {
+        return Err(18);
+    }
+    let (useful, evicting) = (useful?, evicting?);
+    let has_high_count = has_high_count(&useful, table);
+    if has_high_count && error != Some(Error::LooksAtOrderOfTimesFirst) {
+        return Err(18);
+    }
     let task = Task {
         name,
         execution: positive[0],
@@ -150,6 +194,9 @@ fn task_line(table: &Table, fields: &[&[u8]], error: Option<Error>) -> Result<Ta
     };
     if task.jitter > task.deadline || task.deadline > task.period {
         return Err(8);
+    }
+    if has_high_count {
+        return Err(18);
     }
     if position_of(table, &task.name).is_some() {
         return Err(9);
@@ -173,12 +220,20 @@ fn access_line(table: &Table, fields: &[&[u8]], error: Option<Error>) -> Result<
     if length == 0 || length > TIME_MOST {
         return Err(6);
     }
-    let useful = cache_sets(fields[4], table.sets).ok_or(7u64);
+    let useful = useful_sets(fields[4], table, error).ok_or(7u64);
     let positions = positions_of(table, &names, error).ok_or(15u64);
-    if error == Some(Error::LooksUpNamesFirst) {
-        positions?;
+    match error {
+        Some(Error::LooksUpNamesFirst) => drop(positions?),
+        Some(Error::LooksAtCountsFirst) if has_high_digit(fields[4], table) => return Err(18),
+        _ => {}
     }
     let useful = useful?;
+    if error == Some(Error::LooksUpNamesBeforeCounts) {
+        positions?;
+    }
+    if has_high_count(&useful, table) {
+        return Err(18);
+    }
     let (task, ceiling) = positions?;
     let access = Access {
         task,
@@ -234,6 +289,46 @@ fn number(field: &[u8]) -> Option<u64> {
     (spelled.len() <= DIGITS_MOST && value.to_string() == spelled).then_some(value)
 }
 
+/// By cache set how many useful blocks it has, from a field of the table's form.
+fn useful_sets(field: &[u8], table: &Table, error: Option<Error>) -> Option<Vec<usize>> {
+    let takes_hex = error == Some(Error::TakesHexFields) && field.len() == table.sets / 4;
+    if table.form == Form::Hex || takes_hex {
+        let members = cache_sets(field, table.sets)?;
+        let count = |set| usize::from(members.contains(&set));
+        return Some((0..table.sets).map(count).collect());
+    }
+    if field.len() != table.sets {
+        return None;
+    }
+    let radix = match error {
+        Some(Error::TakesHexDigits) => 16,
+        _ => 10,
+    };
+    let digits = field.iter().map(|digit| {
+        let is_small = !digit.is_ascii_uppercase();
+        let count = char::from(*digit).to_digit(radix).filter(|_| is_small);
+        count.map(|count| count as usize)
+    });
+    let counts: Option<Vec<usize>> = digits.collect();
+    let mut counts = counts?;
+    if error != Some(Error::CountsFromLowestSet) {
+        counts.reverse();
+    }
+    Some(counts)
+}
+
+fn has_high_count(counts: &[usize], table: &Table) -> bool {
+    counts.iter().any(|count| *count > table.form.ways())
+}
+
+/// By an error, whether a digit of a field is too high that need not be good otherwise.
+fn has_high_digit(field: &[u8], table: &Table) -> bool {
+    let ways = table.form.ways() as u32;
+    let digits = field.iter().flat_map(|byte| char::from(*byte).to_digit(10));
+    table.form != Form::Hex && digits.into_iter().any(|digit| digit > ways)
+}
+
+/// The cache sets of a field in hex, in rising order.
 fn cache_sets(field: &[u8], sets: usize) -> Option<Vec<usize>> {
     if field.len() != sets / 4 {
         return None;
@@ -278,8 +373,48 @@ mod tests {
             task: 1,
             ceiling: 0,
             length: 5,
-            useful: vec![0, 3],
+            useful: vec![1, 0, 0, 1],
         };
         assert_eq!(accesses, [expected]);
+    }
+
+    #[test]
+    fn a_counted_field_has_a_digit_for_each_set() {
+        let table = |field: &str| {
+            let text = format!("K\t4\t1\t2\nT\ta\t1\t9\t9\t0\t0\t{field}\tf\n");
+            read(text.as_bytes()).map_err(|refusal| refusal.number)
+        };
+        let read = table("0012").expect("a valid table");
+        assert_eq!(read.form, Form::Counted(2));
+        assert_eq!(read.tasks[0].useful, [2, 1, 0, 0]);
+        assert_eq!(read.tasks[0].evicting, [0, 1, 2, 3]);
+        for (field, number) in [
+            ("012", 7),
+            ("00012", 7),
+            ("001a", 7),
+            ("f", 7),
+            ("0013", 18),
+        ] {
+            assert_eq!(table(field).err(), Some(number), "{field}");
+        }
+    }
+
+    #[test]
+    fn three_fields_and_a_way_of_one_are_two_forms() {
+        let with = |first: &str| {
+            let rest = "T\ta\t1\t9\t9\t0\t0\t";
+            let useful = if first.len() > 5 { "0101" } else { "5" };
+            read(format!("{first}\n{rest}{useful}\tf\n").as_bytes())
+        };
+        let (hex, counted) = (with("K\t4\t1"), with("K\t4\t1\t1"));
+        let (hex, counted) = (hex.expect("valid"), counted.expect("valid"));
+        assert_eq!(hex.tasks, counted.tasks);
+        assert_ne!(hex, counted);
+        let refused = |first| with(first).err().map(|refusal| refusal.number);
+        assert_eq!(refused("K\t4\t1\t0"), Some(6));
+        assert_eq!(refused("K\t4\t1\t9"), Some(6));
+        assert_eq!(refused("K\t4\t1\t"), Some(5));
+        assert_eq!(refused("K\t4\t1\t1\t1"), Some(3));
+        assert_eq!(refused("K\t4"), Some(3));
     }
 }

@@ -1,20 +1,32 @@
 //! Table values as lists of numbers, whether or not a text gives them.
 //!
-//! The list starts with the number of cache sets, the block reload time and the number of tasks. Then
-//! come the 32 places, each of which has the 12 bytes of a name, filled up with zeros, the times
-//! C, T, D, J and B, and four words each of UCB and ECB: cache set s is bit s % 64 of word s / 64. The
-//! tasks have the first places, and the others are all zeros. Then come the number of accesses and 32
-//! places for them, each of which has the positions of the task and of the ceiling, the length, and
-//! four words of UCB. The accesses have the first of these, and the others are all zeros.
+//! The list starts with the number of cache sets, the block reload time, the form and the number of
+//! tasks. The form is 0 where line 1 has three fields, and otherwise the number of ways. Then come the
+//! 32 places, each of which has the 12 bytes of a name, filled up with zeros, the times C, T, D, J and B,
+//! 32 words of UCB and four words of ECB. The tasks have the first places, and the others are all zeros.
+//! Then come the number of accesses and 32 places for them, each of which has the positions of the task
+//! and of the ceiling, the length, and 32 words of UCB. The accesses have the first of these, and the
+//! others are all zeros.
+//!
+//! Four words are some of the cache sets: set s is bit s % 64 of word s / 64. A UCB has eight levels of
+//! four words, the lowest first. Level l, counted from 0, has the sets with more than l useful blocks, so
+//! that a set of three is in the levels 0, 1 and 2. In hex, with one way, there is level 0 alone.
 
-use super::{Access, Table, Task, ACCESSES_MOST, TASKS_MOST};
+use super::{Access, Form, Table, Task, ACCESSES_MOST, TASKS_MOST, WAYS_MOST};
 use std::ops::Range;
 
 /// Where the numbers of the whole table stand in the list.
 pub const SETS: usize = 0;
 pub const RELOAD_TIME: usize = 1;
-pub const COUNT: usize = 2;
-const FIRST_PLACE: usize = 3;
+pub const FORM: usize = 2;
+pub const COUNT: usize = 3;
+const FIRST_PLACE: usize = 4;
+
+/// Four words say of each cache set whether it is meant.
+pub const WORDS: usize = 4;
+
+/// A UCB has four words for each level.
+pub const LEVELS: usize = WAYS_MOST as usize;
 
 /// Where the numbers of a task stand in its place.
 pub const NAME: Range<usize> = 0..12;
@@ -23,11 +35,11 @@ pub const PERIOD: usize = 13;
 pub const DEADLINE: usize = 14;
 pub const JITTER: usize = 15;
 pub const BLOCKING: usize = 16;
-pub const USEFUL: Range<usize> = 17..21;
-pub const EVICTING: Range<usize> = 21..25;
+pub const USEFUL: Range<usize> = 17..17 + LEVELS * WORDS;
+pub const EVICTING: Range<usize> = USEFUL.end..USEFUL.end + WORDS;
 
 /// How many numbers a place has.
-pub const PLACE: usize = 25;
+pub const PLACE: usize = EVICTING.end;
 
 /// Where the number of accesses stands in the list.
 pub const ACCESS_COUNT: usize = FIRST_PLACE + TASKS_MOST * PLACE;
@@ -37,10 +49,10 @@ const FIRST_ACCESS: usize = ACCESS_COUNT + 1;
 pub const ACCESS_TASK: usize = 0;
 pub const ACCESS_CEILING: usize = 1;
 pub const ACCESS_LENGTH: usize = 2;
-pub const ACCESS_USEFUL: Range<usize> = 3..7;
+pub const ACCESS_USEFUL: Range<usize> = 3..3 + LEVELS * WORDS;
 
 /// How many numbers the place of an access has.
-pub const ACCESS_PLACE: usize = 7;
+pub const ACCESS_PLACE: usize = ACCESS_USEFUL.end;
 
 /// How many numbers a value has.
 pub const NUMBERS: usize = FIRST_ACCESS + ACCESSES_MOST * ACCESS_PLACE;
@@ -53,7 +65,11 @@ pub struct Value {
 impl Value {
     pub fn of(table: &Table) -> Value {
         let count = table.tasks.len() as u64;
-        let mut numbers = vec![table.sets as u64, table.reload_time, count];
+        let form = match table.form {
+            Form::Hex => 0,
+            Form::Counted(ways) => ways,
+        };
+        let mut numbers = vec![table.sets as u64, table.reload_time, form, count];
         for task in &table.tasks {
             numbers.extend(place_of(task));
         }
@@ -78,6 +94,11 @@ impl Value {
 
     pub fn reload_time(&self) -> u64 {
         self.numbers[RELOAD_TIME]
+    }
+
+    /// 0 for hex, or the number of ways.
+    pub fn form(&self) -> u64 {
+        self.numbers[FORM]
     }
 
     pub fn count(&self) -> u64 {
@@ -129,10 +150,10 @@ impl Value {
 
     /// The value in words, a line for each place that is not empty.
     pub fn lines(&self) -> Vec<String> {
-        let (sets, reload_time, count) = (self.sets(), self.reload_time(), self.count());
-        let accesses = self.access_count();
-        let counts = format!("sets {sets}, BRT {reload_time}, tasks {count}, accesses {accesses}");
-        let mut lines = vec![counts];
+        let (sets, reload_time, form) = (self.sets(), self.reload_time(), self.form());
+        let (count, accesses) = (self.count(), self.access_count());
+        let of_table = format!("sets {sets}, BRT {reload_time}, form {form}");
+        let mut lines = vec![format!("{of_table}, tasks {count}, accesses {accesses}")];
         let is_filled = |place: &[u64]| place.iter().any(|number| *number != 0);
         for (index, place) in self.places().enumerate() {
             if is_filled(place) {
@@ -190,7 +211,10 @@ pub fn access_field_name(field: usize) -> String {
         ACCESS_TASK => "an access's task".to_string(),
         ACCESS_CEILING => "an access's ceiling".to_string(),
         ACCESS_LENGTH => "an access's length".to_string(),
-        _ => format!("an access's UCB word {}", field - ACCESS_USEFUL.start),
+        _ => format!(
+            "an access's UCB level {}",
+            level_of(field - ACCESS_USEFUL.start)
+        ),
     }
 }
 
@@ -203,14 +227,25 @@ pub fn field_name(field: usize) -> String {
         JITTER => "J".to_string(),
         BLOCKING => "B".to_string(),
         _ if NAME.contains(&field) => format!("name byte {field}"),
-        _ if USEFUL.contains(&field) => format!("UCB word {}", field - USEFUL.start),
+        _ if USEFUL.contains(&field) => format!("UCB level {}", level_of(field - USEFUL.start)),
         _ => format!("ECB word {}", field - EVICTING.start),
     }
 }
 
-/// Whether a cache set is marked.
+/// The level of one of the words of a UCB.
+pub fn level_of(word: usize) -> usize {
+    word / WORDS
+}
+
+/// Whether a cache set is marked in the first four words.
 pub fn is_marked(words: &[u64], set: u64) -> bool {
     words[(set / 64) as usize] >> (set % 64) & 1 == 1
+}
+
+/// In how many levels of a UCB a cache set is marked, whether or not these are the lowest.
+pub fn levels_with(useful: &[u64], set: u64) -> usize {
+    let levels = useful.chunks_exact(WORDS);
+    levels.filter(|level| is_marked(level, set)).count()
 }
 
 fn place_of(task: &Task) -> Vec<u64> {
@@ -223,7 +258,7 @@ fn place_of(task: &Task) -> Vec<u64> {
     place[DEADLINE] = task.deadline;
     place[JITTER] = task.jitter;
     place[BLOCKING] = task.blocking;
-    mark(&mut place[USEFUL], &task.useful);
+    count_up(&mut place[USEFUL], &task.useful);
     mark(&mut place[EVICTING], &task.evicting);
     place
 }
@@ -233,14 +268,31 @@ fn access_place_of(access: &Access) -> Vec<u64> {
     place[ACCESS_TASK] = access.task as u64;
     place[ACCESS_CEILING] = access.ceiling as u64;
     place[ACCESS_LENGTH] = access.length;
-    mark(&mut place[ACCESS_USEFUL], &access.useful);
+    count_up(&mut place[ACCESS_USEFUL], &access.useful);
     place
+}
+
+/// Marks each cache set in as many levels as it has useful blocks.
+fn count_up(words: &mut [u64], counts: &[usize]) {
+    for (level, words) in words.chunks_exact_mut(WORDS).enumerate() {
+        let sets = (0..counts.len()).filter(|set| counts[*set] > level);
+        mark(words, &sets.collect::<Vec<usize>>());
+    }
 }
 
 fn mark(words: &mut [u64], sets: &[usize]) {
     for set in sets {
         words[set / 64] |= 1 << (set % 64);
     }
+}
+
+/// The levels of a UCB that are not empty, their words in hex.
+fn levels_in_words(words: &[u64]) -> String {
+    let levels = words.chunks_exact(WORDS).enumerate();
+    let filled = levels.filter(|(_, level)| level.iter().any(|word| *word != 0));
+    let filled = filled.map(|(level, words)| format!("level {level} {words:x?}"));
+    let filled: Vec<String> = filled.collect();
+    filled.join(" ")
 }
 
 /// The words of cache sets in hex, the lowest first.
@@ -250,18 +302,21 @@ fn in_words(place: &[u64]) -> String {
         (EXECUTION..=BLOCKING).map(|field| format!("{} {}", field_name(field), place[field]));
     let times: Vec<String> = times.collect();
     format!(
-        "name {}, {}, UCB {:x?}, ECB {:x?}",
+        "name {}, {}, UCB {}, ECB {:x?}",
         name.escape_ascii(),
         times.join(", "),
-        &place[USEFUL],
+        levels_in_words(&place[USEFUL]),
         &place[EVICTING]
     )
 }
 
 fn access_in_words(place: &[u64]) -> String {
     format!(
-        "task {}, ceiling {}, length {}, UCB {:x?}",
-        place[ACCESS_TASK], place[ACCESS_CEILING], place[ACCESS_LENGTH], &place[ACCESS_USEFUL]
+        "task {}, ceiling {}, length {}, UCB {}",
+        place[ACCESS_TASK],
+        place[ACCESS_CEILING],
+        place[ACCESS_LENGTH],
+        levels_in_words(&place[ACCESS_USEFUL])
     )
 }
 
@@ -274,17 +329,17 @@ mod tests {
     #[test]
     fn each_number_stands_in_its_place() {
         let value = Value::of(&read(&table_m()).expect("a valid table"));
-        assert_eq!(value.numbers.len(), 1_028);
-        assert_eq!(value.numbers[..3], [8, 1, 3]);
-        let mut last = [0; 25];
+        assert_eq!(value.numbers.len(), 2_821);
+        assert_eq!(value.numbers[..4], [8, 1, 0, 3]);
+        let mut last = [0; 53];
         last[0] = u64::from(b'c');
         last[12..17].copy_from_slice(&[2, 60, 60, 0, 0]);
-        (last[17], last[21]) = (0x3c, 0x3c);
+        (last[17], last[49]) = (0x3c, 0x3c);
         assert_eq!(value.place(2), last);
         assert!(value.places().skip(3).flatten().all(|number| *number == 0));
-        assert!(value.numbers[803..].iter().all(|number| *number == 0));
-        assert_eq!(kind_of(at(31, 24)), Kind::OfTask(31, 24));
-        assert_eq!(at(31, 24), 802);
+        assert!(value.numbers[1_700..].iter().all(|number| *number == 0));
+        assert_eq!(kind_of(at(31, 52)), Kind::OfTask(31, 52));
+        assert_eq!(at(31, 52), 1_699);
     }
 
     #[test]
@@ -292,22 +347,34 @@ mod tests {
         let accesses = b"A\tc\tb\t77\t81\nA\tb\tb\t5\t00\n";
         let text = [table_m(), accesses.to_vec()].concat();
         let value = Value::of(&read(&text).expect("a valid table"));
-        assert_eq!(value.numbers[803], 2);
-        assert_eq!(value.numbers[804..811], [2, 1, 77, 0x81, 0, 0, 0]);
-        assert_eq!(value.numbers[811..818], [1, 1, 5, 0, 0, 0, 0]);
-        assert!(value.numbers[818..].iter().all(|number| *number == 0));
-        assert_eq!(kind_of(803), Kind::OfTable);
-        assert_eq!(kind_of(804), Kind::OfAccess(0, 0));
-        assert_eq!(kind_of(access_at(31, 6)), Kind::OfAccess(31, 6));
-        assert_eq!(access_at(31, 6), 1_027);
+        assert_eq!(value.numbers[1_700], 2);
+        assert_eq!(value.numbers[1_701..1_708], [2, 1, 77, 0x81, 0, 0, 0]);
+        assert_eq!(value.numbers[1_736..1_743], [1, 1, 5, 0, 0, 0, 0]);
+        assert!(value.numbers[1_743..].iter().all(|number| *number == 0));
+        assert_eq!(kind_of(1_700), Kind::OfTable);
+        assert_eq!(kind_of(1_701), Kind::OfAccess(0, 0));
+        assert_eq!(kind_of(access_at(31, 34)), Kind::OfAccess(31, 34));
+        assert_eq!(access_at(31, 34), 2_820);
+    }
+
+    #[test]
+    fn a_count_is_as_many_levels() {
+        let text = b"K\t4\t1\t8\nT\ta\t1\t9\t9\t0\t0\t8012\tf\n";
+        let value = Value::of(&read(text).expect("a valid table"));
+        assert_eq!(value.numbers[..4], [4, 1, 8, 1]);
+        let useful = &value.place(0)[USEFUL];
+        let lowest: Vec<u64> = useful.iter().copied().step_by(WORDS).collect();
+        assert_eq!(lowest, [0b1011, 0b1001, 8, 8, 8, 8, 8, 8]);
+        let counts = (0..4).map(|set| levels_with(useful, set));
+        assert_eq!(counts.collect::<Vec<usize>>(), [2, 1, 0, 8]);
     }
 
     #[test]
     fn a_list_that_is_too_short_has_no_value() {
-        let list: Vec<u64> = (0..1_100).collect();
-        assert_eq!(Value::at_start(&list[..1_027]), None);
+        let list: Vec<u64> = (0..2_900).collect();
+        assert_eq!(Value::at_start(&list[..2_820]), None);
         let value = Value::at_start(&list).expect("long enough");
-        assert_eq!(value.numbers, list[..1_028]);
+        assert_eq!(value.numbers, list[..2_821]);
     }
 
     #[test]

@@ -1,7 +1,7 @@
 //! Writing a table value.
 
-use super::read::read;
-use super::value::{self, Value, ACCESS_USEFUL, EVICTING, NAME, USEFUL};
+use super::read::{read, read_of_any_length};
+use super::value::{self, Value, ACCESS_USEFUL, EVICTING, NAME, USEFUL, WORDS};
 use super::{fitting, Error, Refusal, ACCESSES_MOST, TASKS_MOST};
 
 /// What the model has to say of one value that is to be written.
@@ -16,7 +16,7 @@ impl Writing {
     pub fn of(value: &Value, error: Option<Error>) -> Writing {
         Writing {
             text: spelled(value, error),
-            is_given: is_given(&overlooking(value, error)),
+            is_given: is_given(&overlooking(value, error), error),
             error,
         }
     }
@@ -47,8 +47,12 @@ impl Writing {
 
 /// An accepted text has just one spelling, so no other text than the one spelled here can read as
 /// the value.
-fn is_given(value: &Value) -> bool {
-    let table = read(&spelled(value, None)).ok();
+fn is_given(value: &Value, error: Option<Error>) -> bool {
+    let text = spelled(value, None);
+    let table = match error {
+        Some(Error::OverlooksLength) => read_of_any_length(&text, None).ok(),
+        _ => read(&text).ok(),
+    };
     let read_back = table.map(|table| Value::of(&table));
     read_back.as_ref() == Some(value)
 }
@@ -57,6 +61,10 @@ fn is_given(value: &Value) -> bool {
 fn spelled(value: &Value, error: Option<Error>) -> Vec<u8> {
     let speller = Speller {
         sets: value.sets(),
+        form: match error {
+            Some(Error::ForgetsForm) if value.form() == 1 => 0,
+            _ => value.form(),
+        },
         error,
     };
     let tasks = value.places().take(value.taken());
@@ -75,17 +83,19 @@ fn spelled(value: &Value, error: Option<Error>) -> Vec<u8> {
 
 struct Speller {
     sets: u64,
+    /// 0 for hex, or the number of ways.
+    form: u64,
     error: Option<Error>,
 }
 
 impl Speller {
     fn cache_line(&self, value: &Value) -> Vec<u8> {
         let (sets, reload_time) = (value.sets(), value.reload_time());
-        line(vec![
-            b"K".to_vec(),
-            self.number(sets),
-            self.number(reload_time),
-        ])
+        let mut fields = vec![b"K".to_vec(), self.number(sets), self.number(reload_time)];
+        if self.form != 0 {
+            fields.push(self.number(self.form));
+        }
+        line(fields)
     }
 
     fn task_line(&self, place: &[u64]) -> Vec<u8> {
@@ -101,7 +111,7 @@ impl Speller {
             self.number(place[value::DEADLINE]),
             self.number(place[value::JITTER]),
             self.number(place[value::BLOCKING]),
-            self.cache_sets(&place[USEFUL]),
+            self.useful_sets(&place[USEFUL]),
             self.cache_sets(&place[EVICTING]),
         ])
     }
@@ -122,7 +132,7 @@ impl Speller {
             task,
             ceiling,
             self.number(place[value::ACCESS_LENGTH]),
-            self.cache_sets(&place[ACCESS_USEFUL]),
+            self.useful_sets(&place[ACCESS_USEFUL]),
         ])
     }
 
@@ -132,6 +142,20 @@ impl Speller {
             _ => number.to_string(),
         };
         spelled.into_bytes()
+    }
+
+    /// In the table's form; in hex there is nothing above the lowest level.
+    fn useful_sets(&self, useful: &[u64]) -> Vec<u8> {
+        if self.form == 0 {
+            return self.cache_sets(&useful[..WORDS]);
+        }
+        let sets = self.sets.min(256);
+        let counts = (0..sets).map(|set| value::levels_with(useful, set));
+        let mut digits: Vec<u8> = counts.map(|count| b"012345678"[count]).collect();
+        if self.error != Some(Error::WritesCountsFromLowestSet) {
+            digits.reverse();
+        }
+        digits
     }
 
     /// A digit for each four of the sets, from the highest on.
@@ -179,6 +203,7 @@ fn overlooking(value: &Value, error: Option<Error>) -> Value {
         Some(Error::OverlooksLowCeiling) => raise_ceilings(&mut value),
         Some(Error::OverlooksBlocking) => clear_blocking(&mut value),
         Some(Error::OverlooksPastLastAccess) => clear_past_last_access(&mut value),
+        Some(Error::OverlooksHighCounts) => clear_high_levels(&mut value),
         _ => {}
     }
     value
@@ -197,19 +222,30 @@ fn make_names_differ(value: &mut Value) {
 
 fn clear_high_marks(value: &mut Value) {
     let sets = value.sets();
-    for index in 0..value.taken() {
-        let place = value.place_mut(index);
-        for words in [USEFUL, EVICTING] {
+    let clear = |words: &mut [u64]| {
+        for level in words.chunks_exact_mut(WORDS) {
             for set in sets.min(256)..256 {
-                place[words.clone()][(set / 64) as usize] &= !(1 << (set % 64));
+                level[(set / 64) as usize] &= !(1 << (set % 64));
             }
         }
+    };
+    for index in 0..value.taken() {
+        clear(&mut value.place_mut(index)[USEFUL]);
+        clear(&mut value.place_mut(index)[EVICTING]);
     }
     for index in 0..value.accesses_taken() {
-        let place = value.access_mut(index);
-        for set in sets.min(256)..256 {
-            place[ACCESS_USEFUL][(set / 64) as usize] &= !(1 << (set % 64));
-        }
+        clear(&mut value.access_mut(index)[ACCESS_USEFUL]);
+    }
+}
+
+/// Of a value with a good number of ways.
+fn clear_high_levels(value: &mut Value) {
+    let levels = value.form().clamp(1, 8) as usize;
+    for index in 0..value.taken() {
+        value.place_mut(index)[USEFUL][levels * WORDS..].fill(0);
+    }
+    for index in 0..value.accesses_taken() {
+        value.access_mut(index)[ACCESS_USEFUL][levels * WORDS..].fill(0);
     }
 }
 
@@ -269,10 +305,8 @@ mod tests {
     /// Gives the value two accesses of the last task, with the task above and itself as ceilings.
     fn add_accesses(value: &mut Value) {
         value.numbers[value::ACCESS_COUNT] = 2;
-        value
-            .access_mut(0)
-            .copy_from_slice(&[2, 1, 77, 0x81, 0, 0, 0]);
-        value.access_mut(1).copy_from_slice(&[2, 2, 5, 0, 0, 0, 0]);
+        value.access_mut(0)[..4].copy_from_slice(&[2, 1, 77, 0x81]);
+        value.access_mut(1)[..4].copy_from_slice(&[2, 2, 5, 0]);
     }
 
     fn refused(change: impl FnOnce(&mut Value)) -> bool {
@@ -374,7 +408,10 @@ mod tests {
     #[test]
     fn the_errors_write_what_they_overlook_and_nothing_else() {
         type Change = fn(&mut Value);
-        let changes: [(Error, Change); 6] = [
+        let changes: [(Error, Change); 7] = [
+            (Error::OverlooksHighCounts, |value| {
+                value.place_mut(1)[USEFUL.start + WORDS] = 1;
+            }),
             (Error::OverlooksEqualNames, |value| {
                 value.place_mut(1)[0] = u64::from(b'c');
             }),

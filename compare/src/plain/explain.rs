@@ -1,9 +1,9 @@
 //! The plain version's explanations.
 
-use super::{asked, code, costs, give, intersection, search, size, union, with_access};
-use super::{Access, Table, Turns, TASKS_MOST};
+use super::{asked, code, costs, give, search, with_access};
+use super::{Access, Blocks, Counted, Marked, Table, Turns, TASKS_MOST};
 
-const EXPLANATION_MOST: usize = 1_317;
+const EXPLANATION_MOST: usize = 1_348;
 
 /// Where the search for a figure ends.
 const FIGURE_MOST: u64 = 250_000_000;
@@ -38,23 +38,37 @@ pub fn explain_within(
     match asked(text, method, position) {
         Err(refused) => code(refused),
         Ok((table, i)) => {
-            let reason = match method {
-                5 => of_combined(&table, i, turns),
-                _ => reason(&table, method as usize, i, FIGURE_MOST, turns),
+            let method = method as usize;
+            let reason = match table.ways {
+                0 => of_method(&table, &Marked(&table), method, i, turns),
+                ways => of_method(&table, &Counted::new(&table, ways), method, i, turns),
             };
             write(&table, i, &reason, out)
         }
     }
 }
 
-fn of_combined(table: &Table, i: usize, turns: &mut Turns) -> Reason {
-    let useful_union = reason(table, 3, i, FIGURE_MOST, turns);
+fn of_method(
+    table: &Table,
+    blocks: &impl Blocks,
+    method: usize,
+    i: usize,
+    turns: &mut Turns,
+) -> Reason {
+    match method {
+        5 => of_combined(table, blocks, i, turns),
+        _ => reason(table, blocks, method, i, FIGURE_MOST, turns),
+    }
+}
+
+fn of_combined(table: &Table, blocks: &impl Blocks, i: usize, turns: &mut Turns) -> Reason {
+    let useful_union = reason(table, blocks, 3, i, FIGURE_MOST, turns);
     // above the other figure this one is not wanted
     let end = match useful_union.figure {
         0 => FIGURE_MOST,
         figure => figure,
     };
-    let evicting_union = reason(table, 4, i, end, turns);
+    let evicting_union = reason(table, blocks, 4, i, end, turns);
     if evicting_union.figure != 0 || useful_union.figure == 0 {
         evicting_union
     } else {
@@ -64,7 +78,14 @@ fn of_combined(table: &Table, i: usize, turns: &mut Turns) -> Reason {
 
 /// By one of the methods 0 to 4, with the figure if it is not above `end`: of the first access with
 /// the largest one, or with the task's own B.
-fn reason(table: &Table, method: usize, i: usize, end: u64, turns: &mut Turns) -> Reason {
+fn reason(
+    table: &Table,
+    blocks: &impl Blocks,
+    method: usize,
+    i: usize,
+    end: u64,
+    turns: &mut Turns,
+) -> Reason {
     let mut plain = Reason {
         method,
         figure: 0,
@@ -72,11 +93,11 @@ fn reason(table: &Table, method: usize, i: usize, end: u64, turns: &mut Turns) -
         reloads: [0; TASKS_MOST],
         victims: [0; TASKS_MOST],
     };
-    fill_in_reloads(table, i, &mut plain);
+    fill_in_reloads(blocks, i, &mut plain);
     let mut largest: Option<Reason> = None;
     for access in table.accesses.iter().filter(|access| access.may_block(i)) {
         let mut blocked = plain.clone();
-        put_access_in(table, i, access, &mut blocked);
+        put_access_in(blocks, i, access, &mut blocked);
         blocked.figure = figure(table, i, &blocked, end, turns);
         if blocked.figure == 0 {
             return blocked;
@@ -95,8 +116,8 @@ fn reason(table: &Table, method: usize, i: usize, end: u64, turns: &mut Turns) -
 }
 
 /// The access is the victim only where it has more to reload than every task has.
-fn put_access_in(table: &Table, i: usize, access: &Access, reason: &mut Reason) {
-    let reloads = with_access(table, reason.method, i, access, reason.reloads);
+fn put_access_in(blocks: &impl Blocks, i: usize, access: &Access, reason: &mut Reason) {
+    let reloads = with_access(blocks, reason.method, i, access, reason.reloads);
     let counts = reason.reloads.iter().zip(&reloads);
     for (victim, (before, after)) in reason.victims.iter_mut().zip(counts) {
         if after > before {
@@ -140,19 +161,18 @@ pub fn nothing_below(
 
 /// Methods 2 and 3 go up from the task, so that the affected tasks grow in number; method 4 goes down
 /// to it, so that the evicting sets do.
-fn fill_in_reloads(table: &Table, i: usize, reason: &mut Reason) {
-    let tasks = &table.tasks[..=i];
+fn fill_in_reloads<B: Blocks>(blocks: &B, i: usize, reason: &mut Reason) {
     match reason.method {
         0 => {}
         1 => {
-            for (reloads, task) in reason.reloads.iter_mut().zip(&tasks[..i]) {
-                *reloads = size(task.evicting);
+            for (j, reloads) in reason.reloads.iter_mut().enumerate().take(i) {
+                *reloads = blocks.evicted(j);
             }
         }
         2 => {
             let (mut most, mut victim) = (0, i);
             for j in (0..i).rev() {
-                let value = size(tasks[j + 1].useful);
+                let value = blocks.size(blocks.useful(j + 1));
                 if value >= most {
                     (most, victim) = (value, j + 1);
                 }
@@ -160,19 +180,19 @@ fn fill_in_reloads(table: &Table, i: usize, reason: &mut Reason) {
             }
         }
         3 => {
-            let mut useful = [0; 4];
+            let mut useful = B::NOTHING_USEFUL;
             for j in (0..i).rev() {
-                useful = union(useful, tasks[j + 1].useful);
-                reason.reloads[j] = size(intersection(useful, tasks[j].evicting));
+                useful = blocks.together(useful, blocks.useful(j + 1));
+                reason.reloads[j] = blocks.lost(useful, blocks.evicting(j));
             }
         }
         _ => {
-            let mut evicting = [0; 4];
+            let mut evicting = B::NOTHING_EVICTING;
             for j in 0..i {
-                evicting = union(evicting, tasks[j].evicting);
+                evicting = blocks.union(evicting, blocks.evicting(j));
                 let (mut most, mut victim) = (0, j + 1);
-                for (k, task) in tasks.iter().enumerate().skip(j + 1) {
-                    let value = size(intersection(task.useful, evicting));
+                for k in j + 1..=i {
+                    let value = blocks.lost(blocks.useful(k), evicting);
                     if value > most {
                         (most, victim) = (value, k);
                     }

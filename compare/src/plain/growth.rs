@@ -1,10 +1,10 @@
 //! The plain version's growths, and its tables with scaled execution times.
 
 use super::explain::nothing_below;
-use super::reading::{read, TIME_MOST};
+use super::reading::{read, TEXT_MOST, TIME_MOST};
 use super::table::write;
-use super::{code, give, intersection, search, size, union};
-use super::{Access, Refused, Table, Turns, Words, METHODS, TASKS_MOST};
+use super::{code, give, search};
+use super::{Access, Blocks, Counted, Marked, Refused, Table, Turns, METHODS, TASKS_MOST};
 
 const GROWTH_MOST: u64 = 4_000;
 
@@ -34,7 +34,7 @@ fn grown(text: &[u8], method: u64) -> Result<(Table, u64), Refused> {
         return Err((12, 0));
     }
     let table = read(text)?;
-    let k = growth_of(&table, method as usize);
+    let k = growth_of(&table, method as usize, text.len());
     Ok((table, k))
 }
 
@@ -45,11 +45,15 @@ fn times(execution: u64, k: u64) -> u64 {
 /// A task that is in time with one k is so with every smaller one. So each task has a growth of its
 /// own, and the table's is the smallest of these: only a task that is not in time with the smallest so
 /// far is looked at more closely. The lowest task comes first, as it is the likeliest to have it.
-fn growth_of(table: &Table, method: usize) -> u64 {
+fn growth_of(table: &Table, method: usize, length: usize) -> u64 {
     let executions = table.tasks.iter().map(|task| task.execution);
     let longest = executions.max().unwrap_or(1);
     // with a larger k the table would be refused
     let mut most = GROWTH_MOST.min(TIME_MOST * 1_000 / longest);
+    let fits = |k| scaled_length(table, length, k) <= TEXT_MOST;
+    if !fits(most) {
+        most = bisected(most, fits);
+    }
     let methods: &[usize] = match &method {
         5 => &[4, 3],
         _ => std::slice::from_ref(&method),
@@ -69,6 +73,23 @@ fn growth_of(table: &Table, method: usize) -> u64 {
         }
     }
     most
+}
+
+/// How long the text is with scaled execution times.
+fn scaled_length(table: &Table, length: usize, k: u64) -> usize {
+    let executions = table.tasks.iter().map(|task| task.execution);
+    let digits: usize = executions.clone().map(digits_of).sum();
+    let scaled: usize = executions.map(|ticks| digits_of(times(ticks, k))).sum();
+    length - digits + scaled
+}
+
+fn digits_of(mut number: u64) -> usize {
+    let mut digits = 1;
+    while number > 9 {
+        number /= 10;
+        digits += 1;
+    }
+    digits
 }
 
 /// The greatest number below `failing` that passes, 0 for none.
@@ -132,7 +153,14 @@ struct Case {
 /// The tasks are gone through from the highest on. Each is one more that those above it affect, so
 /// that their counts and unions are carried along.
 fn all_cases(table: &Table, method: usize) -> Vec<Vec<Case>> {
-    let mut carried = Carried::new(table, method);
+    match table.ways {
+        0 => cases_of(table, &Marked(table), method),
+        ways => cases_of(table, &Counted::new(table, ways), method),
+    }
+}
+
+fn cases_of(table: &Table, blocks: &impl Blocks, method: usize) -> Vec<Vec<Case>> {
+    let mut carried = Carried::new(table, blocks, method);
     let of_each = (0..table.tasks.len()).map(|i| {
         carried.go_down_to(i);
         let blocking = table.accesses.iter().filter(|access| access.may_block(i));
@@ -153,38 +181,38 @@ fn all_cases(table: &Table, method: usize) -> Vec<Vec<Case>> {
 }
 
 /// By the task that pre-empts: what those affected so far have to reload.
-struct Carried<'a> {
-    table: &'a Table,
+struct Carried<'a, B: Blocks> {
+    blocks: &'a B,
     method: usize,
     reloads: [u32; TASKS_MOST],
-    /// The union of their UCBs, for method 3.
-    useful: [Words; TASKS_MOST],
+    /// What they have together, for method 3.
+    useful: Vec<B::Useful>,
     /// The union of the ECBs down to the task that pre-empts, for method 4.
-    evicting: [Words; TASKS_MOST],
+    evicting: Vec<B::Evicting>,
 }
 
-impl Carried<'_> {
-    fn new(table: &Table, method: usize) -> Carried<'_> {
-        let mut evicting = [[0; 4]; TASKS_MOST];
-        let mut all = [0; 4];
-        for (evicting, task) in evicting.iter_mut().zip(&table.tasks) {
-            all = union(all, task.evicting);
-            *evicting = all;
-        }
+impl<B: Blocks> Carried<'_, B> {
+    fn new<'a>(table: &Table, blocks: &'a B, method: usize) -> Carried<'a, B> {
+        let tasks = table.tasks.len();
+        let mut all = B::NOTHING_EVICTING;
+        let evicting = (0..tasks).map(|task| {
+            all = blocks.union(all, blocks.evicting(task));
+            all
+        });
         Carried {
-            table,
+            blocks,
             method,
             reloads: [0; TASKS_MOST],
-            useful: [[0; 4]; TASKS_MOST],
-            evicting,
+            useful: vec![B::NOTHING_USEFUL; tasks],
+            evicting: evicting.collect(),
         }
     }
 
     fn go_down_to(&mut self, i: usize) {
-        let useful = self.table.tasks[i].useful;
+        let useful = self.blocks.useful(i);
         for j in 0..i {
             self.reloads[j] = self.one_more(j, useful);
-            self.useful[j] = union(self.useful[j], useful);
+            self.useful[j] = self.blocks.together(self.useful[j], useful);
         }
     }
 
@@ -192,20 +220,23 @@ impl Carried<'_> {
     fn with(&self, access: &Access) -> [u32; TASKS_MOST] {
         let mut reloads = self.reloads;
         for (j, reloads) in reloads.iter_mut().enumerate().take(access.ceiling) {
-            *reloads = self.one_more(j, access.useful);
+            *reloads = self.one_more(j, self.blocks.useful_in(access));
         }
         reloads
     }
 
     /// The count of `j` with one more that it affects.
-    fn one_more(&self, j: usize, useful: Words) -> u32 {
-        let evicting = self.table.tasks[j].evicting;
+    fn one_more(&self, j: usize, useful: B::Useful) -> u32 {
+        let blocks = self.blocks;
         match self.method {
             0 => 0,
-            1 => size(evicting),
-            2 => self.reloads[j].max(size(useful)),
-            3 => size(intersection(union(self.useful[j], useful), evicting)),
-            _ => self.reloads[j].max(size(intersection(useful, self.evicting[j]))),
+            1 => blocks.evicted(j),
+            2 => self.reloads[j].max(blocks.size(useful)),
+            3 => {
+                let all = blocks.together(self.useful[j], useful);
+                blocks.lost(all, blocks.evicting(j))
+            }
+            _ => self.reloads[j].max(blocks.lost(useful, self.evicting[j])),
         }
     }
 }

@@ -1,9 +1,10 @@
 //! The plain version's reading.
 
-use super::{Access, Refused, Table, Task, Times, Words, ACCESSES_MOST, TASKS_MOST};
+use super::{Access, Counts, Refused, Table, Task, Times, Words, ACCESSES_MOST, TASKS_MOST};
 
-const TEXT_MOST: usize = 16_384;
+pub const TEXT_MOST: usize = 16_384;
 pub const TIME_MOST: u64 = 250_000_000;
+pub const WAYS_MOST: u64 = 8;
 
 pub fn read(text: &[u8]) -> Result<Table, Refused> {
     if text.len() > TEXT_MOST {
@@ -15,8 +16,10 @@ pub fn read(text: &[u8]) -> Result<Table, Refused> {
     let mut table = Table {
         sets: 0,
         reload_time: 0,
+        ways: 0,
         tasks: Vec::with_capacity(TASKS_MOST),
         accesses: Vec::new(),
+        counts: Vec::new(),
     };
     let mut from = 0;
     let mut line = 1;
@@ -65,11 +68,18 @@ fn split_line(text: &[u8], from: usize) -> ([&[u8]; 9], usize, usize) {
 }
 
 fn read_cache(fields: &[&[u8]; 9], found: usize, table: &mut Table) -> Result<(), u64> {
-    if found != 3 || fields[0] != b"K" {
+    if !(3..=4).contains(&found) || fields[0] != b"K" {
         return Err(3);
     }
     let sets = number(fields[1]).ok_or(5u64)?;
     let reload_time = number(fields[2]).ok_or(5u64)?;
+    if found == 4 {
+        let ways = number(fields[3]).ok_or(5u64)?;
+        if !(1..=WAYS_MOST).contains(&ways) {
+            return Err(6);
+        }
+        table.ways = ways as u8;
+    }
     if !is_cache(sets, reload_time) {
         return Err(6);
     }
@@ -100,8 +110,11 @@ fn read_task(fields: &[&[u8]; 9], found: usize, table: &mut Table) -> Result<(),
     if !in_range(times) {
         return Err(6);
     }
-    let useful = words(fields[7], table.sets / 4).ok_or(7u64)?;
+    let (useful, counts) = useful(fields[7], table).ok_or(7u64)?;
     let evicting = words(fields[8], table.sets / 4).ok_or(7u64)?;
+    if are_too_high(&counts, table.ways) {
+        return Err(18);
+    }
     if !in_order(times) {
         return Err(8);
     }
@@ -109,6 +122,7 @@ fn read_task(fields: &[&[u8]; 9], found: usize, table: &mut Table) -> Result<(),
         return Err(9);
     }
     table.tasks.push(Task::new(name, times, useful, evicting));
+    table.counts.extend(counts);
     Ok(())
 }
 
@@ -126,7 +140,10 @@ fn read_access(fields: &[&[u8]; 9], found: usize, table: &mut Table) -> Result<(
     if !is_length(length) {
         return Err(6);
     }
-    let useful = words(fields[4], table.sets / 4).ok_or(7u64)?;
+    let (useful, counts) = useful(fields[4], table).ok_or(7u64)?;
+    if are_too_high(&counts, table.ways) {
+        return Err(18);
+    }
     let task = table.position(fields[1]).ok_or(15u64)?;
     let ceiling = table.position(fields[2]).ok_or(15u64)?;
     if ceiling > task {
@@ -137,7 +154,9 @@ fn read_access(fields: &[&[u8]; 9], found: usize, table: &mut Table) -> Result<(
         ceiling,
         length,
         useful,
+        counts: table.counts.len(),
     });
+    table.counts.extend(counts);
     Ok(())
 }
 
@@ -173,6 +192,26 @@ fn number(field: &[u8]) -> Option<u64> {
         value = value * 10 + u64::from(digit);
     }
     Some(value)
+}
+
+/// The marks of a table in hex, or the counts of another one.
+fn useful(field: &[u8], table: &Table) -> Option<(Words, Option<Counts>)> {
+    if table.ways == 0 {
+        return Some((words(field, table.sets / 4)?, None));
+    }
+    if field.len() != table.sets {
+        return None;
+    }
+    let mut counts = [0; 256];
+    for (count, byte) in counts.iter_mut().zip(field.iter().rev()) {
+        *count = byte.wrapping_sub(b'0');
+    }
+    let good = counts.iter().all(|count| *count <= 9);
+    good.then_some(([0; 4], Some(counts)))
+}
+
+pub fn are_too_high(counts: &Option<Counts>, ways: u8) -> bool {
+    counts.map_or(false, |counts| counts.iter().any(|count| *count > ways))
 }
 
 fn words(field: &[u8], digits: usize) -> Option<Words> {

@@ -3,6 +3,7 @@
 use super::Manner;
 use crate::model::value::{
     Value, ACCESS_CEILING, ACCESS_COUNT, ACCESS_LENGTH, ACCESS_TASK, ACCESS_USEFUL, BLOCKING,
+    USEFUL,
 };
 use crate::model::ACCESSES_MOST;
 use crate::random::Random;
@@ -39,7 +40,7 @@ fn add_access(random: &mut Random, value: &mut Value) {
     if taken < ACCESSES_MOST {
         let task = random.below(value.taken());
         let (ceiling, length) = (random.below(task + 1) as u64, random.magnitude(1, 9_999));
-        let words = value.place(task)[17..21].to_vec();
+        let words = value.place(task)[USEFUL].to_vec();
         let copied = any_access(random, value).filter(|_| random.chance(30));
         let numbers = match copied {
             Some(copied) => value.access(copied).to_vec(),

@@ -1,105 +1,129 @@
 -- Facts about the columns that are carried down the rows.
-use Rattle.std.proofs.Common.{ℕ, ◌+◌, ◌<◌, arith, ◌≡◌, refl, sym, ap, ◌∙◌, List, below_more, set, length-set, get_or-set_same, get_or-set_other}
+use Rattle.std.proofs.Common.{ℕ, ◌+◌, ◌*◌, ◌≤◌, ◌<◌, mul-le-mul, arith, ◌≡◌, refl, sym, subst, ap, ◌∙◌, List, below_more, set, length-set, get_or-set_same, get_or-set_other}
 use Rattle.cache.specs.declared.sets.CacheSet.{CacheSet}
-use Rattle.cache.specs.Sets.{Set, ◌∪◌, ◌∩◌, size}
+use Rattle.cache.specs.Sets.{Set, size}
 use Rattle.cache.specs.Words.{members}
 use Rattle.cache.proofs.SetLaws.{size-le}
-use Rattle.cache.proofs.WordLaws.{members-empty}
+use Rattle.cache.specs.declared.useful.Useful.{Useful}
+use Rattle.cache.specs.Counts.{Counts, nothing, ◌⊕◌, capped, ◌on◌, total}
+use Rattle.cache.specs.Levels.{counts}
+use Rattle.cache.proofs.CountLaws.{capped_left, total-on-le, total-most}
 use Rattle.cache.specs.declared.units.Reloads.{Reloads}
-use Rattle.table.specs.Tasks.{no_sets}
 use Rattle.table.specs.declared.accesses.Access.{Access}
 use Rattle.table.proofs.AddedLaws.{added-above}
 use Rattle.search.specs.Positions.{hp}
 use Rattle.table.specs.declared.Table.{Table}
+use Rattle.table.specs.Tables.{ways_in, at}
+use Rattle.table.specs.Accepted.{AcceptedTable}
 use Rattle.analysis.specs.declared.costs.Hit.{Hit}
 use Rattle.analysis.specs.declared.costs.Single.{Single}
 use Rattle.analysis.specs.declared.costs.Single.TheVariants.{None, EcbOnly, UcbOnly, UcbUnion, EcbUnion}
 use Rattle.analysis.specs.Gather.{union_of, hit, larger_of}
 use Rattle.analysis.specs.Costs.{reloads_of, reloads_with, ucb_of, ecb_of, term_with, term_at, term_under}
-use Rattle.analysis.proofs.UnionLaws.{union-none, union-next}
+use Rattle.analysis.proofs.SumLaws.{sum-none, sum-next}
 use Rattle.analysis.proofs.HitLaws.{larger-most, hit-none, hit-next, largest-from}
-use Rattle.analysis.proofs.CostLaws.{hit-most}
+use Rattle.analysis.proofs.CostLaws.{hit-most, counts-few}
 use Rattle.analysis.specs.declared.carried.Column.{Column}
-use Rattle.analysis.specs.Carried.{Next, ColumnOf, Small, count_of, no_column, column_in, Ledger, Passing}
+use Rattle.analysis.specs.declared.carried.Counted.{Counted}
+use Rattle.analysis.specs.Carried.{Next, ColumnOf, Small, Few, count_told, count_of, count_with, no_column, column_in, Ledger, Passing}
 
 module _ (table : Table) (j : ℕ) where
   -- before the row below it: nothing is gathered, and the first that could be hit is the task below
-  pub column-none : (above : CacheSet) (n : Reloads) (nobody : Hit) → members above ≡ union_of (ecb_of table) (hp (j + 1)) → n.0 ≡ size (ecb_of table j)
-      → nobody ≡ hit 0 (j + 1)
-      → ColumnOf table j (j + 1) (record { above = above; evicting = n; most = nobody; all = no_sets; shared = nobody })
-  column-none above n nobody a e h = record {
+  pub column-none : (above : CacheSet) (n : Reloads) (nobody : Hit) (all : Useful) → members above ≡ union_of (ecb_of table) (hp (j + 1))
+      → n.0 ≡ size (ecb_of table j) * ways_in table → nobody ≡ hit 0 (j + 1) → counts (ways_in table) all ≡ nothing
+      → ColumnOf table j (j + 1) (record { above = above; evicting = n; most = nobody; all = all; shared = nobody })
+  column-none above n nobody all a e h none = record {
     above = a;
     evicting = e;
-    most = h ∙ hit-none (λ k. size (ucb_of table k)) (j + 1);
-    all = members-empty ∙ union-none (ucb_of table) (j + 1);
-    shared = h ∙ hit-none (λ k. size (ucb_of table k ∩ union_of (ecb_of table) (hp (j + 1)))) (j + 1);
+    most = h ∙ hit-none (λ k. total (ucb_of table k)) (j + 1);
+    all = none ∙ sum-none (ways_in table) (ucb_of table) (j + 1);
+    shared = h ∙ hit-none (λ k. total (ucb_of table k on union_of (ecb_of table) (hp (j + 1)))) (j + 1);
   }
 
   module _ (i : ℕ) (above : j < i) where
     -- one row further
-    pub column-next : (c r : Column) (ucb : Set) → ucb ≡ ucb_of table i → ColumnOf table j i c → Next c ucb i r → ColumnOf table j (i + 1) r
+    pub column-next : (c r : Column) (ucb : Counts) → ucb ≡ ucb_of table i → ColumnOf table j i c → Next (ways_in table) c ucb i r → ColumnOf table j (i + 1) r
     column-next c r ucb e p n = record {
       above = ap members n.above ∙ p.above;
       evicting = ap (λ (x : Reloads). x.0) n.evicting ∙ p.evicting;
-      most = n.most ∙ hit-next (λ k. size (ucb_of table k)) (j + 1) i _ _ (omega arith) p.most (ap size e);
-      all = n.all ∙ union-next (ucb_of table) (j + 1) i _ _ (omega arith) p.all e;
+      most = n.most ∙ hit-next (λ k. total (ucb_of table k)) (j + 1) i _ _ (omega arith) p.most (ap total e);
+      all = n.all ∙ sum-next (ways_in table) (ucb_of table) (j + 1) i _ _ (omega arith) p.all e;
       shared = n.shared
-          ∙ ap (λ (A : Set). larger_of c.shared (hit (size (ucb ∩ A)) i)) p.above
-          ∙ hit-next (λ k. size (ucb_of table k ∩ union_of (ecb_of table) (hp (j + 1)))) (j + 1) i _ _ (omega arith) p.shared
-          (ap (λ (A : Set). size (A ∩ union_of (ecb_of table) (hp (j + 1)))) e);
+          ∙ ap (λ (A : Set). larger_of c.shared (hit (total (ucb on A)) i)) p.above
+          ∙ hit-next (λ k. total (ucb_of table k on union_of (ecb_of table) (hp (j + 1)))) (j + 1) i _ _ (omega arith) p.shared
+          (ap (λ (U : Counts). total (U on union_of (ecb_of table) (hp (j + 1)))) e);
     }
 
     module _ (c : Column) (p : ColumnOf table j (i + 1) c) where
       -- the counts of a row below it
-      column-count : (m : Single) → count_of (ecb_of table j) c m ≡ reloads_of (ucb_of table) (ecb_of table) m i j
+      column-count : (m : Single) → count_of (ways_in table) (ecb_of table j) c m ≡ reloads_of (ways_in table) (ucb_of table) (ecb_of table) m i j
       unfolding reloads_of
       column-count None = refl
       column-count EcbOnly = p.evicting
-      column-count UcbOnly = ap (λ (h : Hit). h.reloads.0) (p.most ∙ largest-from (λ k. size (ucb_of table k)) (j + 1) (i + 1) (omega arith))
-      column-count UcbUnion = ap (λ (A : Set). size (A ∩ ecb_of table j)) p.all
+      column-count UcbOnly = ap (λ (h : Hit). h.reloads.0) (p.most ∙ largest-from (λ k. total (ucb_of table k)) (j + 1) (i + 1) (omega arith))
+      column-count UcbUnion = ap (λ (U : Counts). total (U on ecb_of table j)) p.all
       column-count EcbUnion =
           ap (λ (h : Hit). h.reloads.0)
-          (p.shared ∙ largest-from (λ k. size (ucb_of table k ∩ union_of (ecb_of table) (hp (j + 1)))) (j + 1) (i + 1) (omega arith))
+          (p.shared ∙ largest-from (λ k. total (ucb_of table k on union_of (ecb_of table) (hp (j + 1)))) (j + 1) (i + 1) (omega arith))
 
-      pub column-term : (m : Single) → term_with table j (count_of (ecb_of table j) c m) ≡ term_at table m i j
+      pub column-term : (m : Single) → term_with table j (count_of (ways_in table) (ecb_of table j) c m) ≡ term_at table m i j
       column-term m = ap (term_with table j) (column-count m)
 
       -- and while an access blocks
-      module _ (a : Access) (r : Column) (past : j < a.ceiling) (n : Next c (members a.ucb) a.task r) where
-        under-count : (m : Single) → count_of (ecb_of table j) r m ≡ reloads_with (ucb_of table) (ecb_of table) (members a.ucb) a.task m i j
+      module _ (a : Access) where
+        under-count : (m : Single) → count_with (ways_in table) (ecb_of table j) c (counts (ways_in table) a.ucb) a.task m
+            ≡ reloads_with (ways_in table) (ucb_of table) (ecb_of table) (counts (ways_in table) a.ucb) a.task m i j
         unfolding reloads_with
         under-count None = refl
-        under-count EcbOnly = ap (λ (x : Reloads). x.0) n.evicting ∙ p.evicting
+        under-count EcbOnly = p.evicting
         under-count UcbOnly =
-            ap (λ (h : Hit). h.reloads.0)
-            (n.most ∙ ap (λ (h : Hit). larger_of h (hit (size (members a.ucb)) a.task))
-            (p.most ∙ largest-from (λ k. size (ucb_of table k)) (j + 1) (i + 1) (omega arith)))
-        under-count UcbUnion = ap (λ (A : Set). size (A ∩ ecb_of table j)) (n.all ∙ ap (λ (A : Set). A ∪ members a.ucb) p.all)
+            ap (λ (h : Hit). (larger_of h (hit (total (counts (ways_in table) a.ucb)) a.task)).reloads.0)
+            (p.most ∙ largest-from (λ k. total (ucb_of table k)) (j + 1) (i + 1) (omega arith))
+        under-count UcbUnion =
+            ap (λ (U : Counts). total (U on ecb_of table j))
+            (ap (λ (U : Counts). capped (ways_in table) (U ⊕ counts (ways_in table) a.ucb)) p.all ∙ capped_left (ways_in table) _ _)
         under-count EcbUnion =
-            ap (λ (h : Hit). h.reloads.0)
-            (n.shared
-            ∙ ap (λ (A : Set). larger_of c.shared (hit (size (members a.ucb ∩ A)) a.task)) p.above
-            ∙ ap (λ (h : Hit). larger_of h (hit (size (members a.ucb ∩ union_of (ecb_of table) (hp (j + 1)))) a.task))
-            (p.shared ∙ largest-from (λ k. size (ucb_of table k ∩ union_of (ecb_of table) (hp (j + 1)))) (j + 1) (i + 1) (omega arith)))
+            ap (λ (A : Set). (larger_of c.shared (hit (total (counts (ways_in table) a.ucb on A)) a.task)).reloads.0) p.above
+            ∙ ap (λ (h : Hit). (larger_of h (hit (total (counts (ways_in table) a.ucb on union_of (ecb_of table) (hp (j + 1)))) a.task)).reloads.0)
+            (p.shared ∙ largest-from (λ k. total (ucb_of table k on union_of (ecb_of table) (hp (j + 1)))) (j + 1) (i + 1) (omega arith))
 
-        pub under-term : (m : Single) → term_with table j (count_of (ecb_of table j) r m) ≡ term_under table a m i j
-        under-term m =
+        pub under-term : (n : Counted) → ((m : Single) → count_told n m ≡ count_with (ways_in table) (ecb_of table j) c (counts (ways_in table) a.ucb) a.task m)
+            → j < a.ceiling → (m : Single) → term_with table j (count_told n m) ≡ term_under table a m i j
+        under-term n e past m =
             ap (term_with table j)
-            (under-count m ∙ ap (λ (X : Set). reloads_with (ucb_of table) (ecb_of table) X a.task m i j) (sym (added-above a j past)))
+            (e m ∙ under-count m ∙ ap (λ (X : Counts). reloads_with (ways_in table) (ucb_of table) (ecb_of table) X a.task m i j) (sym (added-above (ways_in table) a j past)))
 
-pub column-small : (table : Table) (j i : ℕ) (c : Column) → ColumnOf table j i c → Small c
-column-small table j i c p = record {
-  evicting = rw p.evicting (omega (arith, size-le (ecb_of table j)));
-  most = rw p.most (hit-most _ _ _ (λ k. omega (arith, size-le (ucb_of table k))));
-  shared = rw p.shared (hit-most _ _ _ (λ k. omega (arith, size-le (ucb_of table k ∩ union_of (ecb_of table) (hp (j + 1))))));
+-- no size is above what all cache sets can hold
+total-small : (ways : ℕ) (u : Useful) → ways ≤ 8 → total (counts ways u) ≤ 2048
+total-small ways u few = omega (arith, total-most ways (counts ways u) (counts-few ways u))
+
+shared-small : (ways : ℕ) (u : Useful) (E : Set) → ways ≤ 8 → total (counts ways u on E) ≤ 2048
+shared-small ways u E few = omega (arith, total-small ways u few, total-on-le (counts ways u) E)
+
+pub column-small : (table : Table) (j i : ℕ) (c : Column) → AcceptedTable table → ColumnOf table j i c → Small c
+column-small table j i c accepted p = record {
+  evicting = rw p.evicting (mul-le-mul {n₂ = 256} {m₂ = 8} (size-le (ecb_of table j)) accepted.ways.1);
+  most = rw p.most (hit-most _ _ _ (λ k. total-small (ways_in table) (at table k).ucb accepted.ways.1));
+  shared = rw p.shared (hit-most _ _ _ (λ k. shared-small (ways_in table) (at table k).ucb (union_of (ecb_of table) (hp (j + 1))) accepted.ways.1));
 }
 
--- what one set more leaves small
-pub next-small : (c r : Column) (ucb : Set) (k : ℕ) → Small c → Next c ucb k r → Small r
-next-small c r ucb k s n = record {
-  evicting = rw n.evicting s.evicting;
-  most = rw n.most (larger-most _ _ s.most (omega (arith, size-le ucb)));
-  shared = rw n.shared (larger-most _ _ s.shared (omega (arith, size-le (ucb ∩ members c.above))));
+-- the counts of a small column, and with one UCB more, are small
+pub counted-few : (ways : ℕ) (ecb : Set) (c : Column) (n : Counted) → Small c → n.ucb_union.0 ≤ 2048
+    → ((m : Single) → count_told n m ≡ count_of ways ecb c m) → Few n
+counted-few ways ecb c n s u e = record {
+  ecb_only = subst (λ (x : ℕ). x ≤ 2048) (sym (e EcbOnly)) s.evicting;
+  ucb_only = subst (λ (x : ℕ). x ≤ 2048) (sym (e UcbOnly)) s.most;
+  ucb_union = u;
+  ecb_union = subst (λ (x : ℕ). x ≤ 2048) (sym (e EcbUnion)) s.shared;
+}
+
+pub with-few : (ways : ℕ) (ecb : Set) (c : Column) (ucb : Useful) (k : ℕ) (n : Counted) → ways ≤ 8 → Small c → n.ucb_union.0 ≤ 2048
+    → ((m : Single) → count_told n m ≡ count_with ways ecb c (counts ways ucb) k m) → Few n
+with-few ways ecb c ucb k n few s u e = record {
+  ecb_only = subst (λ (x : ℕ). x ≤ 2048) (sym (e EcbOnly)) s.evicting;
+  ucb_only = subst (λ (x : ℕ). x ≤ 2048) (sym (e UcbOnly)) (larger-most _ _ s.most (total-small ways ucb few));
+  ucb_union = u;
+  ecb_union = subst (λ (x : ℕ). x ≤ 2048) (sym (e EcbUnion)) (larger-most _ _ s.shared (shared-small ways ucb (members c.above) few));
 }
 
 -- ---- inside a row

@@ -1,16 +1,24 @@
 -- Facts about reload counts.
-use Rattle.std.proofs.Common.{ℕ, ◌+◌, ◌≤◌, max, arith, ◌≡◌, refl, ap, ◌∙◌, List}
-use Rattle.cache.specs.Sets.{Set, ∅, ◌∪◌, ◌∩◌, size}
-use Rattle.cache.proofs.SetLaws.{union_comm, union-empty, size-le, size_none, size-inter-left}
+use Rattle.std.proofs.Common.{ℕ, ◌+◌, ◌≤◌, max, zero-le, mul-le-mul, arith, ◌≡◌, refl, ap, ◌∙◌, Bool, true, false, cond, ltb, List}
+use Rattle.cache.specs.Sets.{Set, size}
+use Rattle.cache.proofs.SetLaws.{size-le}
+use Rattle.cache.specs.declared.useful.Useful.{Useful}
+use Rattle.cache.specs.Counts.{Counts, nothing, ◌⊕◌, capped, ◌on◌, total}
+use Rattle.cache.specs.Levels.{counts}
+use Rattle.cache.proofs.CountLaws.{add_comm, nothing-add, total-nothing, total-on-le, total-most, capped_le}
+use Rattle.cache.proofs.LevelLaws.{heights-le}
 use Rattle.search.specs.Positions.{hp}
 use Rattle.search.proofs.PositionLaws.{fold-keeps}
 use Rattle.table.specs.declared.accesses.Access.{Access}
+use Rattle.table.specs.Accesses.{added_by}
 use Rattle.table.proofs.AddedLaws.{added_none}
 use Rattle.table.specs.declared.Table.{Table}
+use Rattle.table.specs.Tables.{ways_in, at}
+use Rattle.table.specs.Accepted.{AcceptedTable}
 use Rattle.analysis.specs.declared.costs.Single.{Single}
 use Rattle.analysis.specs.declared.costs.Single.TheVariants.{None, EcbOnly, UcbOnly, UcbUnion, EcbUnion}
 use Rattle.analysis.specs.declared.costs.Charge.TheVariants.{Victim}
-use Rattle.analysis.specs.Gather.{aff, union_of, hit, largest_from, largest_at}
+use Rattle.analysis.specs.Gather.{aff, union_of, counts_over, hit, largest_from, largest_at}
 use Rattle.analysis.specs.Costs.{no_victim, charge_of, reloads_in, reloads_of, charge_with, reloads_with, ucb_of, ecb_of, charge_at, charge_under}
 use Rattle.analysis.proofs.HitLaws.{larger-first, larger-most, largest-count}
 
@@ -18,39 +26,61 @@ use Rattle.analysis.proofs.HitLaws.{larger-first, larger-most, largest-count}
 pub hit-most : (p : ℕ) (F : ℕ → ℕ) (ks : List ℕ) {most : ℕ} → ((k : ℕ) → F k ≤ most) → (largest_from p F ks).reloads.0 ≤ most
 hit-most p F ks {most} h = rw (largest-count p F ks) (fold-keeps max (λ b. b ≤ most) 0 F ks (omega arith) (λ b k q. omega (arith, h k)))
 
--- with the empty set one member more changes nothing
-module _ (U E : ℕ → Set) (n i j : ℕ) where
-  union-none-more : (A : Set) → (A ∪ ∅) ≡ A
-  union-none-more A = union_comm A ∅ ∙ union-empty A
+-- with nothing one member more changes nothing
+module _ (ways : ℕ) (U : ℕ → Counts) (E : ℕ → Set) (n i j : ℕ) where
+  add-nothing : (S : Counts) → (S ⊕ nothing) ≡ S
+  add-nothing S = add_comm S nothing ∙ nothing-add S
 
-  pub with_none : (m : Single) → charge_with U E ∅ n m i j ≡ charge_of U E m i j
+  pub with_none : (m : Single) → charge_with ways U E nothing n m i j ≡ charge_of ways U E m i j
   with_none None = refl
   with_none EcbOnly = refl
-  with_none UcbOnly = ap Victim (larger-first (largest_at (λ k. size (U k)) (aff i j)) (hit (size ∅) n) (omega (arith, size_none)))
-  with_none UcbUnion = ap (λ (A : Set). no_victim (size (A ∩ E j))) (union-none-more (union_of U (aff i j)))
+  with_none UcbOnly = ap Victim (larger-first (largest_at (λ k. total (U k)) (aff i j)) (hit (total nothing) n) (omega (arith, total-nothing)))
+  with_none UcbUnion = ap (λ (S : Counts). no_victim (total (capped ways S on E j))) (add-nothing (counts_over U (aff i j)))
   with_none EcbUnion =
       ap Victim
-      (larger-first (largest_at (λ k. size (U k ∩ union_of E (hp (j + 1)))) (aff i j)) (hit (size (∅ ∩ union_of E (hp (j + 1)))) n)
-      (omega (arith, size_none, size-inter-left ∅ (union_of E (hp (j + 1))))))
+      (larger-first (largest_at (λ k. total (U k on union_of E (hp (j + 1)))) (aff i j)) (hit (total (nothing on union_of E (hp (j + 1)))) n)
+      (omega (arith, total-nothing, total-on-le nothing (union_of E (hp (j + 1))))))
 
-  pub reloads-none : (m : Single) → reloads_with U E ∅ n m i j ≡ reloads_of U E m i j
+  pub reloads-none : (m : Single) → reloads_with ways U E nothing n m i j ≡ reloads_of ways U E m i j
   unfolding reloads_with reloads_of
   reloads-none m = ap reloads_in (with_none m)
 
--- no reload count is above the number of cache sets
-module _ (U E : ℕ → Set) (i j : ℕ) where
-  pub with-few : (X : Set) (n : ℕ) (m : Single) → reloads_with U E X n m i j ≤ 256
-  unfolding reloads_with
-  with-few X n None = omega arith
-  with-few X n EcbOnly = size-le _
-  with-few X n UcbOnly = larger-most _ _ (hit-most _ _ (aff i j) (λ k. size-le _)) (size-le _)
-  with-few X n UcbUnion = size-le _
-  with-few X n EcbUnion = larger-most _ _ (hit-most _ _ (aff i j) (λ k. size-le _)) (size-le _)
+-- no reload count is above what all cache sets can hold
+module _ (ways : ℕ) (U : ℕ → Counts) (E : ℕ → Set) (i j : ℕ) (few : ways ≤ 8) (u : (k s : ℕ) → U k s ≤ ways) where
+  total-few : (X : Counts) → ((s : ℕ) → X s ≤ ways) → total X ≤ 2048
+  total-few X x = omega (arith, total-most ways X x)
 
-  pub with-most : (X : Set) (n : ℕ) (m : Single) → reloads_with U E X n m i j ≤ 2048
-  with-most X n m = omega (arith, with-few X n m)
+  on-few : (X : Counts) (A : Set) → ((s : ℕ) → X s ≤ ways) → total (X on A) ≤ 2048
+  on-few X A x = omega (arith, total-few X x, total-on-le X A)
+
+  pub with-most : (X : Counts) → ((s : ℕ) → X s ≤ ways) → (n : ℕ) (m : Single) → reloads_with ways U E X n m i j ≤ 2048
+  unfolding reloads_with
+  with-most X x n None = omega arith
+  with-most X x n EcbOnly = mul-le-mul {n₂ = 256} {m₂ = 8} (size-le (E j)) few
+  with-most X x n UcbOnly = larger-most _ _ (hit-most _ _ (aff i j) (λ k. total-few (U k) (u k))) (total-few X x)
+  with-most X x n UcbUnion = on-few _ _ (capped_le ways _)
+  with-most X x n EcbUnion = larger-most _ _ (hit-most _ _ (aff i j) (λ k. on-few (U k) _ (u k))) (on-few X _ x)
+
+-- the counts of a table's tasks and accesses are no larger than its ways
+pub counts-few : (ways : ℕ) (u : Useful) (s : ℕ) → counts ways u s ≤ ways
+counts-few ways u s = heights-le ways u.levels s
+
+pub added-few : (ways : ℕ) (a : Access) (j s : ℕ) → added_by ways a j s ≤ ways
+unfolding nothing
+added-few ways a j s = go (ltb j a.ceiling)
+  where
+    go : (t : Bool) → (cond t (counts ways a.ucb) nothing) s ≤ ways
+    go true = counts-few ways a.ucb s
+    go false = zero-le
+
+pub under-most : (table : Table) (a : Access) (m : Single) (i j : ℕ) → AcceptedTable table
+    → reloads_with (ways_in table) (ucb_of table) (ecb_of table) (added_by (ways_in table) a j) a.task m i j ≤ 2048
+under-most table a m i j p =
+    with-most (ways_in table) (ucb_of table) (ecb_of table) i j p.ways.1 (λ k s. counts-few (ways_in table) (at table k).ucb s)
+    (added_by (ways_in table) a j) (added-few (ways_in table) a j) a.task m
 
 -- at the ceiling of an access and below it nothing is added
 pub charge-past : (table : Table) (a : Access) (m : Single) (i j : ℕ) → a.ceiling ≤ j → charge_under table a m i j ≡ charge_at table m i j
 charge-past table a m i j past =
-    ap (λ (X : Set). charge_with (ucb_of table) (ecb_of table) X a.task m i j) (added_none a j past) ∙ with_none (ucb_of table) (ecb_of table) a.task i j m
+    ap (λ (X : Counts). charge_with (ways_in table) (ucb_of table) (ecb_of table) X a.task m i j) (added_none (ways_in table) a j past)
+    ∙ with_none (ways_in table) (ucb_of table) (ecb_of table) a.task i j m

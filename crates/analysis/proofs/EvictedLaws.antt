@@ -1,17 +1,21 @@
 -- ECB-Union, carried up a row: going up the ECBs get fewer, so what bounded the shares still does.
-use Rattle.std.proofs.Common.{ℕ, ◌+◌, ◌≤◌, ◌<◌, arith, ◌≡◌, refl, ap, List, length, replicate, set}
+use Rattle.std.proofs.Common.{ℕ, ◌+◌, ◌≤◌, ◌<◌, le_refl, arith, ◌≡◌, refl, ap, List, length, replicate, set}
 use Rattle.std.proofs.lemmas.List.{get_or-replicate}
 use Rattle.cache.specs.declared.units.Reloads.{Reloads}
 use Rattle.cache.specs.Sets.{Set}
-use Rattle.cache.proofs.SetLaws.{size-le, size-inter-mono}
+use Rattle.cache.specs.Counts.{◌on◌, total}
+use Rattle.cache.proofs.CountLaws.{total_mono, total-on-le, total-most, on-mono}
 use Rattle.search.specs.Positions.{between, hp}
 use Rattle.table.specs.declared.Table.{Table}
+use Rattle.table.specs.Tables.{ways_in, at}
+use Rattle.table.specs.Accepted.{AcceptedTable}
+use Rattle.analysis.proofs.CostLaws.{counts-few}
 use Rattle.analysis.specs.declared.costs.Hit.{Hit}
 use Rattle.analysis.specs.declared.costs.Single.TheVariants.{EcbUnion}
 use Rattle.analysis.specs.declared.costs.Charge.{Charge}
 use Rattle.analysis.specs.declared.costs.Charge.TheVariants.{Victim}
 use Rattle.analysis.specs.Gather.{union_of, largest_at}
-use Rattle.analysis.specs.Costs.{ecb_of}
+use Rattle.analysis.specs.Costs.{ucb_of, ecb_of}
 use Rattle.analysis.proofs.UnionLaws.{union_more}
 use Rattle.analysis.proofs.HitLaws.{first-largest}
 use Rattle.analysis.specs.Row.{Charged}
@@ -28,16 +32,20 @@ pub record Evicted (table : Table) (i j : ℕ) (row : List Charge) (bounds : Lis
   pub bounded : AtMost (shared_of table (union_of (ecb_of table) (hp j))) bounds
 
 abbrev most : Reloads
-most = record { 0 = 256 }
+most = record { 0 = 2048 }
 
 module _ {table : Table} (i : ℕ) (few : i < 32) where
-  -- no UCB has more than all cache sets
-  pub evicted-none : {row : List Charge} → length row ≡ 32 → Evicted table i i row (replicate 32 most) i
-  evicted-none long = record {
+  shared-few : AcceptedTable table → (k : ℕ) (E : Set) → total (ucb_of table k on E) ≤ 2048
+  shared-few accepted k E =
+      omega (arith, accepted.ways.1, total-on-le (ucb_of table k) E, total-most (ways_in table) (ucb_of table k) (counts-few (ways_in table) (at table k).ucb))
+
+  -- no UCB has more than all cache sets can hold
+  pub evicted-none : {row : List Charge} → AcceptedTable table → length row ≡ 32 → Evicted table i i row (replicate 32 most) i
+  evicted-none accepted long = record {
     charged = charged-none i long;
     from_on = omega arith;
     below = omega arith;
-    bounded = record { long = refl; each = λ k l. rw (get_or-replicate {A = Reloads} 32 k most (record { 0 = 0 }) l) (size-le _) };
+    bounded = record { long = refl; each = λ k l. rw (get_or-replicate {A = Reloads} 32 k most (record { 0 = 0 }) l) (shared-few accepted k _) };
   }
 
   module _ {row : List Charge} {bounds : List Reloads} {likely : ℕ} (j : ℕ) (some : j < i) (p : Evicted table i (j + 1) row bounds likely)
@@ -53,5 +61,5 @@ module _ {table : Table} (i : ℕ) (few : i < 32) where
           from_on = omega (arith, victim.from_on);
           below = victim.below;
           bounded = bound-less (rw down at bounds) (shared_of table (union_of (ecb_of table) (hp j)))
-              (λ k. size-inter-mono _ _ _ _ (λ s h. h) (union_more (ecb_of table) 0 j (omega arith)));
+              (λ k. total_mono _ _ (on-mono _ _ _ _ (λ s. le_refl _) (union_more (ecb_of table) 0 j (omega arith))));
         }

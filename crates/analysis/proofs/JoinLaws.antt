@@ -5,7 +5,8 @@ use Rattle.table.specs.declared.Table.{Table}
 use Rattle.analysis.specs.declared.costs.Single.{Single}
 use Rattle.analysis.specs.declared.costs.Charge.{Charge}
 use Rattle.analysis.specs.Costs.{no_victim, reloads_with, ucb_of, ecb_of, charge_at, charge_under, term_under}
-use Rattle.analysis.proofs.CostLaws.{with-most, charge-past}
+use Rattle.table.specs.Accepted.{AcceptedTable}
+use Rattle.analysis.proofs.CostLaws.{under-most, charge-past}
 use Rattle.table.specs.Accesses.{added_by}
 use Rattle.analysis.specs.Row.{charge_in, Charged}
 use Rattle.analysis.proofs.OneRowLaws.{tells-front}
@@ -26,11 +27,11 @@ module _ {table : Table} {a : Access} {m : Single} {i : ℕ} {row : List Charge}
 
 -- the counts of such a row are few, and make the terms
 module _ (table : Table) (a : Access) (m : Single) (i : ℕ) {row : List Charge} (p : ChargedUnder table a m i 0 row) where
-  pub row-few : FewReloads i row
+  pub row-few : AcceptedTable table → FewReloads i row
   unfolding reloads_with
-  row-few = record {
+  row-few accepted = record {
     long = p.long;
-    few = λ j l. rw (p.each j zero-le l) (with-most (ucb_of table) (ecb_of table) i j (added_by a j) a.task m);
+    few = λ j l. rw (p.each j zero-le l) (under-most table a m i j accepted);
   }
 
   pub row-term : (j : ℕ) → j < i → term_by table row j ≡ term_under table a m i j

@@ -13,7 +13,7 @@ use Rattle.search.proofs.LeastLaws.{least_of-least, least-is}
 use Rattle.search.proofs.LaterLaws.{later_first, latest-front}
 use Rattle.table.specs.Tasks.{limit_of}
 use Rattle.table.specs.declared.accesses.Access.{Access}
-use Rattle.table.specs.Accesses.{may_block, blocking, or_else, plain_access, empty_access}
+use Rattle.table.specs.Accesses.{may_block, blocking, or_else, plain_access, blank_access}
 use Rattle.table.proofs.BlockingLaws.{Every, blocking-snoc}
 use Rattle.table.specs.declared.Table.{Table}
 use Rattle.table.specs.Tables.{at, accesses_of}
@@ -108,16 +108,16 @@ module _ (table : Table) (m : Single) (i : ℕ) where
   -- the accesses one after the other
   module _ (n : ℕ) (few : n < length table.accesses) {so_far : Option Need} (p : so_far ≡ largest_some W (blocking i (take n table.accesses))) where
     next : blocking i (take (n + 1) table.accesses)
-        ≡ blocking i (take n table.accesses) ++ cond (may_block i (get_or table.accesses n empty_access)) (get_or table.accesses n empty_access ∷ []) []
-    next = rw (add-one, take-suc table.accesses n empty_access few) (blocking-snoc i (take n table.accesses) (get_or table.accesses n empty_access))
+        ≡ blocking i (take n table.accesses) ++ cond (may_block i (get_or table.accesses n blank_access)) (get_or table.accesses n blank_access ∷ []) []
+    next = rw (add-one, take-suc table.accesses n blank_access few) (blocking-snoc i (take n table.accesses) (get_or table.accesses n blank_access))
 
-    pub needed-yes : may_block i (get_or table.accesses n empty_access) ≡ true → (need : Need) → need ≡ larger_of_some so_far (W (get_or table.accesses n empty_access))
+    pub needed-yes : may_block i (get_or table.accesses n blank_access) ≡ true → (need : Need) → need ≡ larger_of_some so_far (W (get_or table.accesses n blank_access))
         → Some need ≡ largest_some W (blocking i (take (n + 1) table.accesses))
     needed-yes e need is =
-        let more : blocking i (take (n + 1) table.accesses) ≡ blocking i (take n table.accesses) ++ (get_or table.accesses n empty_access ∷ []) = rw e at next in
-        rw (more, is, p) (largest-next W (blocking i (take n table.accesses)) (get_or table.accesses n empty_access))
+        let more : blocking i (take (n + 1) table.accesses) ≡ blocking i (take n table.accesses) ++ (get_or table.accesses n blank_access ∷ []) = rw e at next in
+        rw (more, is, p) (largest-next W (blocking i (take n table.accesses)) (get_or table.accesses n blank_access))
 
-    pub needed-no : may_block i (get_or table.accesses n empty_access) ≡ false → so_far ≡ largest_some W (blocking i (take (n + 1) table.accesses))
+    pub needed-no : may_block i (get_or table.accesses n blank_access) ≡ false → so_far ≡ largest_some W (blocking i (take (n + 1) table.accesses))
     needed-no e =
         let same : blocking i (take (n + 1) table.accesses) ≡ blocking i (take n table.accesses) = rw e at next ∙ append-nil (blocking i (take n table.accesses)) in
         rw same p

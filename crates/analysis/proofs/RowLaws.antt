@@ -2,6 +2,7 @@
 use Rattle.std.specs.Prelude.{None as NoPlace}
 use Rattle.std.proofs.Common.{ℕ, ◌+◌, ◌≤◌, ◌<◌, zero-le, mul-le-mul_left, arith, ◌≡◌, refl, sym, ap, subst, ◌∙◌, true, false, ◌⊎◌, inl, inr, Option, Some, List, [], map, length, get_or, set, take, get_or-take, length-take-le}
 use Rattle.cache.specs.Sets.{Set}
+use Rattle.cache.specs.Counts.{Counts}
 use Rattle.search.specs.declared.demand.Response.{Response}
 use Rattle.search.specs.declared.demand.Response.TheVariants.{Within, Unschedulable}
 use Rattle.search.specs.declared.demand.Row.{Row}
@@ -18,9 +19,9 @@ use Rattle.search.specs.Counts.{once, Started}
 use Rattle.search.proofs.CountLaws.{started-same, started-next, started-harder}
 use Rattle.table.specs.Tasks.{own_of, limit_of}
 use Rattle.table.specs.declared.accesses.Access.{Access}
-use Rattle.table.specs.Accesses.{may_block, blocking, or_else, added_by, plain_access, empty_access}
+use Rattle.table.specs.Accesses.{may_block, blocking, or_else, added_by, plain_access, blank_access}
 use Rattle.table.specs.declared.Table.{Table}
-use Rattle.table.specs.Tables.{at, accesses_of}
+use Rattle.table.specs.Tables.{ways_in, at, accesses_of}
 use Rattle.table.specs.Accepted.{AcceptedTable}
 use Rattle.analysis.specs.declared.costs.Single.{Single}
 use Rattle.analysis.specs.declared.costs.Single.TheVariants.{None, EcbOnly, UcbOnly, UcbUnion, EcbUnion}
@@ -37,13 +38,14 @@ use Rattle.analysis.specs.Rows.{answer_in, Answered, cheaper, Rising, WithOne, r
 
 -- ---- a cheaper method asks for no more
 
-cheaper-reloads : (U E : ℕ → Set) (X : Set) (n i j : ℕ) (m : Single) → reloads_with U E X n (cheaper m) i j ≤ reloads_with U E X n m i j
+cheaper-reloads : (ways : ℕ) (U : ℕ → Counts) (E : ℕ → Set) (X : Counts) (n i j : ℕ) (m : Single)
+    → reloads_with ways U E X n (cheaper m) i j ≤ reloads_with ways U E X n m i j
 unfolding reloads_with
-cheaper-reloads U E X n i j None = omega arith
-cheaper-reloads U E X n i j EcbOnly = ucb-union-with U E X n i j
-cheaper-reloads U E X n i j UcbOnly = ecb-union-with U E X n i j
-cheaper-reloads U E X n i j UcbUnion = omega arith
-cheaper-reloads U E X n i j EcbUnion = omega arith
+cheaper-reloads ways U E X n i j None = omega arith
+cheaper-reloads ways U E X n i j EcbOnly = ucb-union-with ways U E X n i j
+cheaper-reloads ways U E X n i j UcbOnly = ecb-union-with ways U E X n i j
+cheaper-reloads ways U E X n i j UcbUnion = omega arith
+cheaper-reloads ways U E X n i j EcbUnion = omega arith
 
 -- without reloads a task asks for its work
 pub plain-term : (table : Table) (a : Access) (i j : ℕ) → plain_of table j ≡ term_under table a None i j
@@ -63,7 +65,7 @@ module _ (table : Table) (a : Access) (i : ℕ) (accepted : AcceptedTable table)
     live = (ranged m j l).period;
     period = omega arith;
     jitter = omega arith;
-    weight = omega (arith, mul-le-mul_left table.brt.0 (cheaper-reloads (ucb_of table) (ecb_of table) (added_by a j) a.task i j m));
+    weight = omega (arith, mul-le-mul_left table.brt.0 (cheaper-reloads (ways_in table) (ucb_of table) (ecb_of table) (added_by (ways_in table) a j) a.task i j m));
   }
 
   pub no-later : (m : Single) (limit : ℕ) → NoLater (least_under table a (cheaper m) i limit) (least_under table a m i limit)
@@ -182,7 +184,7 @@ plain-longer table i c d accepted here h =
 
 -- the longest so far of the first n accesses that may block
 abbrev pub LongestOf : Table → ℕ → ℕ → ℕ → Option ℕ → Type 0
-LongestOf table i n most (Some k) = (k < n) × (may_block i (get_or table.accesses k empty_access) ≡ true)
+LongestOf table i n most (Some k) = (k < n) × (may_block i (get_or table.accesses k blank_access) ≡ true)
 LongestOf table i n most NoPlace = (most ≡ 0) × (blocking i (take n table.accesses) ≡ [])
 
 -- after the first n accesses, and one that was taken before: the answers over those that may block
@@ -195,27 +197,27 @@ module _ (table : Table) (i : ℕ) (accepted : AcceptedTable table) where
   within n few = omega (arith, accepted.listed, few)
 
   module _ (here : i < table.count) where
-    pub passed-first : (first : ℕ) {s : Answers} → WithOne table (get_or table.accesses first empty_access) i first_answers s → Passed table i first 0 s
+    pub passed-first : (first : ℕ) {s : Answers} → WithOne table (get_or table.accesses first blank_access) i first_answers s → Passed table i first 0 s
     passed-first first w = record {
       over = λ m. from-first table i m first (rw (first-is m) at (w.each m));
       rising = rising-next table _ i accepted here _ _ rising-first w;
     }
 
     module _ (first n : ℕ) (few : n < table.access_count) {s : Answers} (p : Passed table i first n s) where
-      pub passed-yes : may_block i (get_or table.accesses n empty_access) ≡ true → {t : Answers}
-          → WithOne table (get_or table.accesses n empty_access) i s t → Passed table i first (n + 1) t
+      pub passed-yes : may_block i (get_or table.accesses n blank_access) ≡ true → {t : Answers}
+          → WithOne table (get_or table.accesses n blank_access) i s t → Passed table i first (n + 1) t
       passed-yes e w = record {
         over = λ m. from-yes table i m accepted first n few (p.over m) e (w.each m);
         rising = rising-next table _ i accepted here _ _ p.rising w;
       }
 
-      pub passed-no : may_block i (get_or table.accesses n empty_access) ≡ false → Passed table i first (n + 1) s
+      pub passed-no : may_block i (get_or table.accesses n blank_access) ≡ false → Passed table i first (n + 1) s
       passed-no e = record { over = λ m. from-no table i m accepted first n few (p.over m) e; rising = p.rising }
 
-      pub passed-again : may_block i (get_or table.accesses n empty_access) ≡ true → n ≡ first → Passed table i first (n + 1) s
+      pub passed-again : may_block i (get_or table.accesses n blank_access) ≡ true → n ≡ first → Passed table i first (n + 1) s
       passed-again e same = record { over = λ m. from-again table i m accepted first n few (p.over m) e same; rising = p.rising }
 
-    pub answered-all : (first : ℕ) {s : Answers} → first < table.access_count → may_block i (get_or table.accesses first empty_access) ≡ true
+    pub answered-all : (first : ℕ) {s : Answers} → first < table.access_count → may_block i (get_or table.accesses first blank_access) ≡ true
         → Passed table i first table.access_count s → Answered table i s
     answered-all first h e p = record { each = λ m. from-all table i m accepted first h e (p.over m) }
 

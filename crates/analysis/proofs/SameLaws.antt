@@ -2,8 +2,10 @@
 use Rattle.std.proofs.Common.{ℕ, ◌+◌, ◌-◌, ◌*◌, ◌≤◌, ◌<◌, arith, ◌≡◌, refl, sym, ap, ap₂, ◌∙◌, List, map}
 use Rattle.std.proofs.Math.Path.{fun_ext}
 use Rattle.cache.specs.declared.units.Ticks.{Ticks}
-use Rattle.cache.specs.Sets.{Set, ∅, ◌∪◌, ◌∩◌, size}
+use Rattle.cache.specs.Sets.{Set, ∅, ◌∪◌, size}
 use Rattle.cache.specs.Words.{members}
+use Rattle.cache.specs.Counts.{Counts, nothing, ◌⊕◌, capped, ◌on◌, total}
+use Rattle.cache.specs.Levels.{counts}
 use Rattle.search.specs.declared.demand.Response.{Response}
 use Rattle.search.specs.declared.demand.Term.{Term}
 use Rattle.search.specs.Positions.{hp, fold_by}
@@ -16,13 +18,13 @@ use Rattle.table.specs.Accesses.{added_by, or_else, plain_access}
 use Rattle.table.specs.declared.tasks.Task.{Task}
 use Rattle.table.specs.Tasks.{limit_of}
 use Rattle.table.specs.declared.Table.{Table}
-use Rattle.table.specs.Tables.{at}
+use Rattle.table.specs.Tables.{ways_in, at}
 use Rattle.analysis.specs.declared.costs.Hit.{Hit}
 use Rattle.analysis.specs.declared.costs.Single.{Single}
 use Rattle.analysis.specs.declared.costs.Single.TheVariants.{None, EcbOnly, UcbOnly, UcbUnion, EcbUnion}
 use Rattle.analysis.specs.declared.costs.Charge.{Charge}
 use Rattle.analysis.specs.declared.costs.Charge.TheVariants.{Victim}
-use Rattle.analysis.specs.Gather.{aff, union_of, hit, larger_of, largest_at}
+use Rattle.analysis.specs.Gather.{aff, union_of, counts_over, hit, larger_of, largest_at}
 use Rattle.analysis.specs.Costs.{no_victim, charge_of, charge_with, reloads_in, reloads_with, term_with, term_under, ucb_of, ecb_of}
 use Rattle.analysis.specs.Same.{SameDownTo}
 use Rattle.analysis.specs.declared.Method.{Method}
@@ -32,7 +34,7 @@ use Rattle.analysis.proofs.CostLaws.{with_none}
 
 -- ---- a charge, under every method that counts
 
-module _ (U E U' E' : ℕ → Set) (i : ℕ) (useful : (k : ℕ) → k ≤ i → U k ≡ U' k) (evicting : (k : ℕ) → k ≤ i → E k ≡ E' k) (j : ℕ) (above : j < i) where
+module _ (ways : ℕ) (U U' : ℕ → Counts) (E E' : ℕ → Set) (i : ℕ) (useful : (k : ℕ) → k ≤ i → U k ≡ U' k) (evicting : (k : ℕ) → k ≤ i → E k ≡ E' k) (j : ℕ) (above : j < i) where
   affected : {B : Type 0} (op : B → B → B) (z : B) (F G : ℕ → B) → ((k : ℕ) → k ≤ i → F k ≡ G k) → fold_by op z F (aff i j) ≡ fold_by op z G (aff i j)
   affected op z F G same = fold_same op z F G (j + 1) (i + 1 - (j + 1)) (λ k _ l. same k (omega (arith, above)))
 
@@ -43,22 +45,22 @@ module _ (U E U' E' : ℕ → Set) (i : ℕ) (useful : (k : ℕ) → k ≤ i →
   evicted = fold_same ◌∪◌ ∅ E E' 0 (j + 1 - 0) (λ k _ l. evicting k (omega (arith, above)))
 
   -- with a member more of aff(i, j)
-  pub charge-same : (X : Set) (n : ℕ) (m : Single) → charge_with U E X n m i j ≡ charge_with U' E' X n m i j
+  pub charge-same : (X : Counts) (n : ℕ) (m : Single) → charge_with ways U E X n m i j ≡ charge_with ways U' E' X n m i j
   charge-same X n None = refl
-  charge-same X n EcbOnly = ap (λ (A : Set). no_victim (size A)) (evicting j (omega arith))
+  charge-same X n EcbOnly = ap (λ (A : Set). no_victim (size A * ways)) (evicting j (omega arith))
   charge-same X n UcbOnly =
-      ap (λ (h : Hit). Victim (larger_of h (hit (size X) n))) (hits (λ k. size (U k)) (λ k. size (U' k)) (λ k l. ap size (useful k l)))
+      ap (λ (h : Hit). Victim (larger_of h (hit (total X) n))) (hits (λ k. total (U k)) (λ k. total (U' k)) (λ k l. ap total (useful k l)))
   charge-same X n UcbUnion =
-      ap₂ (λ (A B : Set). no_victim (size ((A ∪ X) ∩ B))) (affected ◌∪◌ ∅ U U' useful) (evicting j (omega arith))
+      ap₂ (λ (S : Counts) (B : Set). no_victim (total (capped ways (S ⊕ X) on B))) (affected ◌⊕◌ nothing U U' useful) (evicting j (omega arith))
   charge-same X n EcbUnion =
-      ap (λ (V : Set). Victim (larger_of (largest_at (λ k. size (U k ∩ V)) (aff i j)) (hit (size (X ∩ V)) n))) evicted
+      ap (λ (V : Set). Victim (larger_of (largest_at (λ k. total (U k on V)) (aff i j)) (hit (total (X on V)) n))) evicted
       ∙ (let V = union_of E' (hp (j + 1)) in
-      ap (λ (h : Hit). Victim (larger_of h (hit (size (X ∩ V)) n)))
-      (hits (λ k. size (U k ∩ V)) (λ k. size (U' k ∩ V)) (λ k l. ap (λ (A : Set). size (A ∩ V)) (useful k l))))
+      ap (λ (h : Hit). Victim (larger_of h (hit (total (X on V)) n)))
+      (hits (λ k. total (U k on V)) (λ k. total (U' k on V)) (λ k l. ap (λ (S : Counts). total (S on V)) (useful k l))))
 
   -- and without one
-  pub charge-alone-same : (m : Single) → charge_of U E m i j ≡ charge_of U' E' m i j
-  charge-alone-same m = sym (with_none U E 0 i j m) ∙ charge-same ∅ 0 m ∙ with_none U' E' 0 i j m
+  pub charge-alone-same : (m : Single) → charge_of ways U E m i j ≡ charge_of ways U' E' m i j
+  charge-alone-same m = sym (with_none ways U E 0 i j m) ∙ charge-same nothing 0 m ∙ with_none ways U' E' 0 i j m
 
 -- ---- an answer
 
@@ -72,11 +74,14 @@ module _ (i : ℕ) (first second : Table) (same : SameDownTo i first second) whe
   term-same : (a : Access) (m : Single) (j : ℕ) → j < i → term_under first a m i j ≡ term_under second a m i j
   unfolding reloads_with
   term-same a m j above =
+      let W = ways_in second in
+      let ways = ap (λ (w : ℕ). charge_with w (λ k. counts w (at first k).ucb) (ecb_of first) (added_by w a j) a.task m i j) same.ways in
       let charge =
-      charge-same (ucb_of first) (ecb_of first) (ucb_of second) (ecb_of second) i (λ k l. ap (λ (t : Task). members t.ucb) (same.tasks k l))
-      (λ k l. ap (λ (t : Task). members t.ecb) (same.tasks k l)) j above (added_by a j) a.task m in
+      ways
+      ∙ charge-same W (λ k. counts W (at first k).ucb) (ucb_of second) (ecb_of first) (ecb_of second) i
+      (λ k l. ap (λ (t : Task). counts W t.ucb) (same.tasks k l)) (λ k l. ap (λ (t : Task). members t.ecb) (same.tasks k l)) j above (added_by W a j) a.task m in
       ap (λ (g : Charge). term_with first j (reloads_in g)) charge
-      ∙ (let n = reloads_with (ucb_of second) (ecb_of second) (added_by a j) a.task m i j in
+      ∙ (let n = reloads_with W (ucb_of second) (ecb_of second) (added_by W a j) a.task m i j in
       ap₂ (λ (brt : Ticks) (t : Task). term_told brt t n) same.brt (same.tasks j (omega arith)))
 
   least-same : (m : Single) (a : Access) → least_under first a m i (limit_of (at first i)) ≡ least_under second a m i (limit_of (at second i))

@@ -1,6 +1,7 @@
 -- What is gathered over the tasks that an activation can affect.
 use Rattle.std.specs.Prelude.{ℕ, ◌+◌, max, ◌≤◌, ◌<◌, ◌≡◌, List, if◌then◌else◌, nat_lt, slice_index}
 use Rattle.cache.specs.Sets.{Set, ∅, ◌∪◌}
+use Rattle.cache.specs.Counts.{Counts, nothing, ◌⊕◌}
 use Rattle.search.specs.Positions.{between, fold_by}
 use Rattle.analysis.specs.declared.costs.Hit.{Hit}
 
@@ -10,6 +11,9 @@ aff i j = between (j + 1) (i + 1)
 
 abbrev pub union_of : (ℕ → Set) → List ℕ → Set
 union_of F ks = fold_by ◌∪◌ ∅ F ks
+
+abbrev pub counts_over : (ℕ → Counts) → List ℕ → Counts
+counts_over F ks = fold_by ◌⊕◌ nothing F ks
 
 -- the largest value alone: the count of the pair below (`largest-count` in proofs/HitLaws.antt)
 abbrev pub largest_of : (ℕ → ℕ) → List ℕ → ℕ

@@ -3,7 +3,7 @@ use Rattle.std.specs.Prelude.{ℕ, Bool, true, false, Option, Some, None, List, 
 use Rattle.search.specs.declared.demand.Response.{Response}
 use Rattle.search.specs.declared.demand.Response.TheVariants.{Within, Unschedulable}
 use Rattle.table.specs.declared.accesses.Access.{Access}
-use Rattle.table.specs.Accesses.{empty_access}
+use Rattle.table.specs.Accesses.{blank_access}
 use Rattle.table.specs.declared.Table.{Table}
 use Rattle.analysis.specs.declared.costs.Single.{Single}
 use Rattle.analysis.specs.declared.costs.Single.TheVariants.{UcbUnion, EcbUnion}
@@ -38,7 +38,7 @@ larger_of_some (Some so_far) need = larger_need so_far need
 
 -- the largest over these accesses, where W has that of each, and the first of them where they are equal
 abbrev pub largest_need : (Access → Need) → List Access → Need
-largest_need W blockers = fold larger_need (W (slice_index_or blockers 0 empty_access)) (map W blockers)
+largest_need W blockers = fold larger_need (W (slice_index_or blockers 0 blank_access)) (map W blockers)
 
 -- the methods that count: while an access blocks, the smallest R up to 250,000,000 that equals its demand, whatever D - J is, and where there is none the need is
 -- beyond that; of these the largest over all that may block the task

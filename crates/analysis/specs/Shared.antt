@@ -1,14 +1,15 @@
 -- The search for the UCB that shares most with a set of ECBs: it looks only at those that could be it.
 use Rattle.std.specs.Prelude.{ℕ, ◌≤◌, ◌<◌, ◌≡◌, Bool, ◌&&◌, ◌||◌, List, length, if◌then◌else◌, nat_lt, slice_index_or, ◌==◌}
 use Rattle.cache.specs.declared.units.Reloads.{Reloads}
-use Rattle.cache.specs.Sets.{Set, ◌∩◌, size}
+use Rattle.cache.specs.Sets.{Set}
+use Rattle.cache.specs.Counts.{◌on◌, total}
 use Rattle.table.specs.declared.Table.{Table}
 use Rattle.analysis.specs.Costs.{ucb_of}
 use Rattle.analysis.specs.declared.costs.Hit.{Hit}
 
--- how many cache sets the UCB of the task at k shares with these
+-- how many useful blocks of the task at k these evict
 abbrev pub shared_of : Table → Set → ℕ → ℕ
-shared_of table ecbs k = size (ucb_of table k ∩ ecbs)
+shared_of table ecbs k = total (ucb_of table k on ecbs)
 
 -- no value is above the number that stands at its position
 pub record AtMost (F : ℕ → ℕ) (bounds : List Reloads) : Type 0 where

@@ -2,8 +2,9 @@
 // adds to it is worked out, for the tasks above its ceiling. specs/BlockedRow.antt says what a row then tells.
 
 ghost use Rattle.std.specs.Prelude.{◌≡◌, ◌<◌, ◌≤◌, length};
-ghost use Rattle.cache.specs.Sets.{◌∪◌};
 ghost use Rattle.cache.specs.Words.{members};
+ghost use Rattle.cache.specs.Counts.{◌⊕◌, capped, ◌on◌, total};
+ghost use Rattle.cache.specs.Levels.{counts};
 ghost use Rattle.table.specs.Accesses.{added_by};
 ghost use Rattle.search.specs.Positions.{front};
 ghost use Rattle.search.specs.Demand.{term_of};
@@ -15,18 +16,19 @@ ghost use Rattle.analysis.specs.BlockedRow.{ChargedUnder, FewReloads, term_by};
 use crate::costs::{Charge, Hit, Single};
 use crate::{costs, one_row};
 use cache::sets::CacheSet;
-use cache::units::Ticks;
+use cache::units::{Reloads, Ticks};
+use cache::useful::Useful;
 use search::demand::Term;
 use table::Table;
 use table::accesses::Access;
 
 // UCB-only: the larger of what is there and the access's UCB.
-fn ucb_only(table: &Table, i: usize, access: Access, row: &mut [Charge; 32])
-    requires { (access.ceiling ≤ i) × AcceptedTable table.now × (i < table.now.count) × Charged table.now UcbOnly i 0 row.old }
-    ensures { ChargedUnder table.now access UcbOnly i 0 row.new }
+fn ucb_only(table: &Table, i: usize, access: &Access, row: &mut [Charge; 32])
+    requires { (access.now.ceiling ≤ i) × AcceptedTable table.now × (i < table.now.count) × Charged table.now UcbOnly i 0 row.old }
+    ensures { ChargedUnder table.now access.now UcbOnly i 0 row.new }
 {
     let added = Hit {
-        reloads: access.ucb.size(),
+        reloads: access.ucb.size(table.ways()),
         victim: access.task,
     };
     for j in (0..access.ceiling).rev() {
@@ -34,37 +36,40 @@ fn ucb_only(table: &Table, i: usize, access: Access, row: &mut [Charge; 32])
     }
 }
 
-// These sets, and the access's UCB if its ceiling is below j.
-fn with_access(sets: CacheSet, access: Access, j: usize) -> CacheSet
-    ensures { members result ≡ members sets ∪ added_by access j }
+// The useful blocks of all that are affected, and the access's if its ceiling is below j: how many of them the ECB evicts.
+fn shared_with(all: &Useful, access: &Access, j: usize, ecb: CacheSet, ways: u64) -> Reloads
+    requires { ways ≤ 8 }
+    ensures { result.0 ≡ total (capped ways (counts ways all.now ⊕ added_by ways access.now j) on members ecb) }
 {
     if j < access.ceiling {
-        return sets.union(access.ucb);
+        let mut joined = *all;
+        joined.join(&access.ucb, ways);
+        return joined.size_in(ecb, ways);
     }
-    sets
+    all.size_in(ecb, ways)
 }
 
-// UCB-Union: the union of the UCBs is carried up, and the access's is put to it above its ceiling.
-fn ucb_union(table: &Table, i: usize, access: Access, row: &mut [Charge; 32])
+// UCB-Union: the useful blocks of all are carried up, and the access's are put to them above its ceiling.
+fn ucb_union(table: &Table, i: usize, access: &Access, row: &mut [Charge; 32])
     requires { AcceptedTable table.now × (i < table.now.count) × (length row.old ≡ 32) }
-    ensures { ChargedUnder table.now access UcbUnion i 0 row.new }
+    ensures { ChargedUnder table.now access.now UcbUnion i 0 row.new }
 {
-    let mut all = CacheSet::EMPTY;
+    let ways = table.ways();
+    let mut all = Useful::NONE;
     for j in (0..i).rev() {
-        all = table.task(j + 1).ucb.union(all);
-        let useful = with_access(all, access, j);
-        row[j] = Charge::NoVictim(useful.intersection(table.task(j).ecb).size());
+        all.join(&table.task(j + 1).ucb, ways);
+        row[j] = Charge::NoVictim(shared_with(&all, access, j, table.task(j).ecb, ways));
     }
 }
 
 // ECB-Union: the larger of what is there and what the access's UCB shares with the ECBs.
-fn ecb_union(table: &Table, i: usize, access: Access, row: &mut [Charge; 32])
-    requires { (access.ceiling ≤ i) × AcceptedTable table.now × (i < table.now.count) × Charged table.now EcbUnion i 0 row.old }
-    ensures { ChargedUnder table.now access EcbUnion i 0 row.new }
+fn ecb_union(table: &Table, i: usize, access: &Access, row: &mut [Charge; 32])
+    requires { (access.now.ceiling ≤ i) × AcceptedTable table.now × (i < table.now.count) × Charged table.now EcbUnion i 0 row.old }
+    ensures { ChargedUnder table.now access.now EcbUnion i 0 row.new }
 {
     let unions = one_row::evictors(table, i);
     for j in (0..access.ceiling).rev() {
-        let shared = access.ucb.intersection(unions[j]).size();
+        let shared = access.ucb.size_in(unions[j], table.ways());
         let added = Hit {
             reloads: shared,
             victim: access.task,
@@ -74,9 +79,9 @@ fn ecb_union(table: &Table, i: usize, access: Access, row: &mut [Charge; 32])
 }
 
 // Makes a row of charges without the access one with it. No reloads and ECB-Only do not depend on who is affected.
-pub fn join(table: &Table, method: Single, i: usize, access: Access, row: &mut [Charge; 32])
-    requires { (access.ceiling ≤ i) × AcceptedTable table.now × (i < table.now.count) × Begun table.now method i row.old }
-    ensures { ChargedUnder table.now access method i 0 row.new }
+pub fn join(table: &Table, method: Single, i: usize, access: &Access, row: &mut [Charge; 32])
+    requires { (access.now.ceiling ≤ i) × AcceptedTable table.now × (i < table.now.count) × Begun table.now method i row.old }
+    ensures { ChargedUnder table.now access.now method i 0 row.new }
 {
     match method {
         Single::None | Single::EcbOnly => {}

@@ -2,29 +2,34 @@
 // column is, and what the terms of a row are.
 
 ghost use Rattle.std.specs.Prelude.{◌≡◌, ◌+◌, ◌<◌, ◌≤◌, length};
-ghost use Rattle.cache.specs.Sets.{◌∩◌, size};
 ghost use Rattle.cache.specs.Words.{members};
+ghost use Rattle.cache.specs.Counts.{◌on◌, total};
+ghost use Rattle.cache.specs.Levels.{counts};
+ghost use Rattle.table.specs.Tables.{ways_in};
 ghost use Rattle.search.specs.Positions.{hp};
 ghost use Rattle.table.specs.Accepted.{AcceptedTable};
+ghost use Rattle.analysis.specs.declared.costs.Single.{Single};
 ghost use Rattle.analysis.specs.Gather.{union_of, hit, larger_of};
-ghost use Rattle.analysis.specs.Costs.{ecb_of, term_with};
-ghost use Rattle.analysis.specs.Carried.{Next, Small, count_of, Passing, Ledger, Long, TermPut, Weighed, WeighedUnder, RowWeighed};
+ghost use Rattle.analysis.specs.Costs.{term_with, ecb_of};
+ghost use Rattle.analysis.specs.Carried.{Next, Small, Few, count_told, count_of, count_with, Passing, Ledger, Long, TermPut, Weighed, WeighedUnder, RowWeighed};
 
+use crate::costs;
 use crate::costs::{Hit, term};
 use cache::sets::CacheSet;
 use cache::units::Reloads;
+use cache::useful::Useful;
 use search::demand::Term;
 use table::Table;
 use table::accesses::Access;
 
-// What is gathered for a task over the positions below it, down to a row: the largest UCB, the union of the UCBs, and the most that one UCB shares with
-// the union of the ECBs down to the task's own; the first and the last with the position that has them. Beside it that union, and the size of its own ECB.
+// What is gathered for a task over the positions below it, down to a row: the largest UCB, the useful blocks of all, and the most that one UCB shares with
+// the union of the ECBs down to the task's own; the first and the last with the position that has them. Beside it that union, and what its own ECB can clear.
 #[derive(Clone, Copy)]
 pub struct Column {
     above: CacheSet,
     evicting: Reloads,
     most: Hit,
-    all: CacheSet,
+    all: Useful,
     shared: Hit,
 }
 
@@ -37,7 +42,7 @@ impl Column {
             reloads: Reloads(0),
             victim: 0,
         },
-        all: CacheSet::EMPTY,
+        all: Useful::NONE,
         shared: Hit {
             reloads: Reloads(0),
             victim: 0,
@@ -45,29 +50,55 @@ impl Column {
     };
 
     // One UCB more. `useful` is its size, with the position of its task.
-    fn gather(self, ucb: CacheSet, useful: Hit) -> Column
-        requires { useful.reloads.0 ≡ size (members ucb) }
-        ensures { Next self (members ucb) useful.victim result }
+    fn gather(&mut self, ucb: &Useful, useful: Hit, ways: u64)
+        requires { (ways ≤ 8) × (useful.reloads.0 ≡ total (counts ways ucb.now)) }
+        ensures { Next ways self.old (counts ways ucb.now) useful.victim self.new }
     {
-        Column {
-            above: self.above,
-            evicting: self.evicting,
-            most: self.most.larger(useful),
-            all: self.all.union(ucb),
-            shared: most_shared(self.shared, ucb, useful, self.above),
+        self.most = self.most.larger(useful);
+        self.all.join(ucb, ways);
+        self.shared = most_shared(self.shared, ucb, useful, self.above, ways);
+    }
+
+    // What it gives for a task with this ECB.
+    fn counted(&self, ecb: CacheSet, ways: u64) -> Counted
+        requires few { ways ≤ 8 }
+        requires small { Small self.now }
+        ensures each { (m : Single) → count_told result m ≡ count_of ways (members ecb) self.now m }
+        ensures few { Few result }
+    {
+        Counted {
+            ecb_only: self.evicting,
+            ucb_only: self.most.reloads,
+            ucb_union: self.all.size_in(ecb, ways),
+            ecb_union: self.shared.reloads,
+        }
+    }
+
+    // What it would give with one UCB more. `useful` is its size, with the position of its task.
+    fn counted_with(&self, ucb: &Useful, useful: Hit, ecb: CacheSet, ways: u64) -> Counted
+        requires useful { (ways ≤ 8) × (useful.reloads.0 ≡ total (counts ways ucb.now)) }
+        requires small { Small self.now }
+        ensures each { (m : Single) → count_told result m ≡ count_with ways (members ecb) self.now (counts ways ucb.now) useful.victim m }
+        ensures few { Few result }
+    {
+        Counted {
+            ecb_only: self.evicting,
+            ucb_only: self.most.larger(useful).reloads,
+            ucb_union: self.all.joined_size_in(ucb, ecb, ways),
+            ecb_union: most_shared(self.shared, ucb, useful, self.above, ways).reloads,
         }
     }
 }
 
 // The larger of a hit and what a UCB shares with the ECBs. It shares no more than its size, `useful`, so where that is not larger nothing is worked out.
-fn most_shared(most: Hit, ucb: CacheSet, useful: Hit, above: CacheSet) -> Hit
-    requires { useful.reloads.0 ≡ size (members ucb) }
-    ensures { result ≡ larger_of most (hit (size (members ucb ∩ members above)) useful.victim) }
+fn most_shared(most: Hit, ucb: &Useful, useful: Hit, above: CacheSet, ways: u64) -> Hit
+    requires { (ways ≤ 8) × (useful.reloads.0 ≡ total (counts ways ucb.now)) }
+    ensures { result ≡ larger_of most (hit (total (counts ways ucb.now on members above)) useful.victim) }
 {
     if useful.reloads.0 <= most.reloads.0 {
         return most;
     }
-    let reloads = ucb.shared_size(useful.reloads, above);
+    let reloads = ucb.shared_size(useful.reloads, above, ways);
     most.larger(Hit {
         reloads,
         victim: useful.victim,
@@ -94,17 +125,25 @@ impl Terms {
     };
 }
 
-// Puts in the terms of the task at j, by its column.
-fn put(terms: &mut Terms, table: &Table, j: usize, column: Column)
-    requires { AcceptedTable table.now × (j < table.now.count) × Small column × Long terms.old }
-    ensures { TermPut j (λ m. term_with table.now j (count_of (ecb_of table.now j) column m)) terms.old terms.new }
+// How many reloads an activation is charged under the methods that charge any.
+#[derive(Clone, Copy)]
+struct Counted {
+    ecb_only: Reloads,
+    ucb_only: Reloads,
+    ucb_union: Reloads,
+    ecb_union: Reloads,
+}
+
+// Puts in the terms of the task at j, with so many reloads.
+fn put(terms: &mut Terms, table: &Table, j: usize, counted: Counted)
+    requires { AcceptedTable table.now × (j < table.now.count) × Few counted × Long terms.old }
+    ensures { TermPut j (λ m. term_with table.now j (count_told counted m)) terms.old terms.new }
 {
-    let reloaded = column.all.intersection(table.task(j).ecb).size();
     terms.none[j] = term(table, j, Reloads(0));
-    terms.ecb_only[j] = term(table, j, column.evicting);
-    terms.ucb_only[j] = term(table, j, column.most.reloads);
-    terms.ucb_union[j] = term(table, j, reloaded);
-    terms.ecb_union[j] = term(table, j, column.shared.reloads);
+    terms.ecb_only[j] = term(table, j, counted.ecb_only);
+    terms.ucb_only[j] = term(table, j, counted.ucb_only);
+    terms.ucb_union[j] = term(table, j, counted.ucb_union);
+    terms.ecb_union[j] = term(table, j, counted.ecb_union);
 }
 
 // The union of the ECBs down to that of the task at i: the one in the column above, with one set more.
@@ -125,13 +164,13 @@ fn add_column(table: &Table, i: usize, ledger: &mut [Column; 32])
     ensures { Ledger table.now (i + 1) ledger.new }
 {
     let above = ecbs_down_to(table, i, ledger);
-    let evicting = table.task(i).ecb.size();
+    let evicting = costs::cleared(table, i);
     let nobody = Hit::none(i + 1);
     ledger[i] = Column {
         above,
         evicting,
         most: nobody,
-        all: CacheSet::EMPTY,
+        all: Useful::NONE,
         shared: nobody,
     };
 }
@@ -141,15 +180,16 @@ pub fn weigh_row(table: &Table, i: usize, ledger: &mut [Column; 32], terms: &mut
     requires { AcceptedTable table.now × (i < table.now.count) × Ledger table.now i ledger.old × Long terms.old }
     ensures { RowWeighed table.now i ledger.new terms.new }
 {
-    let ucb = table.task(i).ucb;
+    let ways = table.ways();
+    let ucb = &table.task(i).ucb;
     let useful = Hit {
-        reloads: ucb.size(),
+        reloads: ucb.size(ways),
         victim: i,
     };
     for j in 0..i {
-        let column = ledger[j].gather(ucb, useful);
-        ledger[j] = column;
-        put(terms, table, j, column);
+        ledger[j].gather(ucb, useful, ways);
+        let counted = ledger[j].counted(table.task(j).ecb, ways);
+        put(terms, table, j, counted);
     }
     add_column(table, i, ledger);
 }
@@ -160,18 +200,20 @@ pub fn weigh_access(
     table: &Table,
     i: usize,
     ledger: &[Column; 32],
-    access: Access,
+    access: &Access,
     terms: &mut Terms,
 )
-    requires { AcceptedTable table.now × (i < table.now.count) × (access.ceiling ≤ i) × Ledger table.now (i + 1) ledger.now × Weighed table.now i terms.old }
-    ensures { WeighedUnder table.now access i terms.new }
+    requires { AcceptedTable table.now × (i < table.now.count) × (access.now.ceiling ≤ i) × Ledger table.now (i + 1) ledger.now × Weighed table.now i terms.old }
+    ensures { WeighedUnder table.now access.now i terms.new }
 {
+    let ways = table.ways();
     let useful = Hit {
-        reloads: access.ucb.size(),
+        reloads: access.ucb.size(ways),
         victim: access.task,
     };
     for j in 0..access.ceiling {
-        let column = ledger[j].gather(access.ucb, useful);
-        put(terms, table, j, column);
+        let ecb = table.task(j).ecb;
+        let counted = ledger[j].counted_with(&access.ucb, useful, ecb, ways);
+        put(terms, table, j, counted);
     }
 }

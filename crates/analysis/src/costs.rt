@@ -1,10 +1,12 @@
 // What pre-emption costs: reload counts with whom they hit, and what one activation asks for with them. specs/Costs.antt says what they are; what is
 // here is common to the two modules that work them out, for the rows of a report and for one row.
 
-ghost use Rattle.std.specs.Prelude.{◌≡◌, ◌<◌, ◌≤◌};
+ghost use Rattle.std.specs.Prelude.{◌≡◌, ◌*◌, ◌<◌, ◌≤◌};
+ghost use Rattle.cache.specs.Sets.{size};
+ghost use Rattle.table.specs.Tables.{ways_in};
 ghost use Rattle.table.specs.Accepted.{AcceptedTable};
 ghost use Rattle.analysis.specs.Gather.{hit, larger_of};
-ghost use Rattle.analysis.specs.Costs.{reloads_in, with_hit, term_with};
+ghost use Rattle.analysis.specs.Costs.{reloads_in, with_hit, ecb_of, term_with};
 
 use cache::units::{Reloads, Ticks};
 use search::demand::Term;
@@ -80,6 +82,14 @@ impl Charge {
             Charge::NoVictim(n) => Charge::NoVictim(n),
         }
     }
+}
+
+// How many blocks the ECB of the task at j can clear: each of its cache sets has as many as there are ways.
+pub fn cleared(table: &Table, j: usize) -> Reloads
+    requires { AcceptedTable table.now × (j < table.now.count) }
+    ensures { result.0 ≡ size (ecb_of table.now j) * ways_in table.now }
+{
+    Reloads(table.task(j).ecb.size().0 * table.ways())
 }
 
 // What the task at j asks for, with so many reloads in its weight.

@@ -76,11 +76,11 @@ fn by_charges(
     i: usize,
     limit: Ticks,
     row: &[Charge; 32],
-    access: Access,
+    access: &Access,
     so_far: Response,
 ) -> Response
-    requires { AcceptedTable table.now × (i < table.now.count) × (limit.0 ≤ 250000000) × ChargedUnder table.now access method i 0 row.now × Blocks i access }
-    ensures { result ≡ later so_far (least_under table.now access method i limit.0) }
+    requires { AcceptedTable table.now × (i < table.now.count) × (limit.0 ≤ 250000000) × ChargedUnder table.now access.now method i 0 row.now × Blocks i access.now }
+    ensures { result ≡ later so_far (least_under table.now access.now method i limit.0) }
 {
     let terms = blocked_row::terms(table, i, row);
     let own = Ticks(table.task(i).work.0 + access.lasts.0);
@@ -94,11 +94,11 @@ pub fn later_under(
     i: usize,
     limit: Ticks,
     row: &[Charge; 32],
-    access: Access,
+    access: &Access,
     so_far: Response,
 ) -> Response
-    requires { AcceptedTable table.now × (i < table.now.count) × (limit.0 ≤ 250000000) × Begun table.now method i row.now × Blocks i access }
-    ensures { result ≡ later so_far (least_under table.now access method i limit.0) }
+    requires { AcceptedTable table.now × (i < table.now.count) × (limit.0 ≤ 250000000) × Begun table.now method i row.now × Blocks i access.now }
+    ensures { result ≡ later so_far (least_under table.now access.now method i limit.0) }
 {
     match method {
         Single::None | Single::EcbOnly => {
@@ -121,7 +121,7 @@ pub fn longest(table: &Table, i: usize) -> Option<usize>
     let mut found: Option<usize> = None;
     let mut most: u64 = 0;
     for n in 0..table.access_count {
-        let access = table.accesses[n];
+        let access = &table.accesses[n];
         if access.may_block(i) {
             if most <= access.lasts.0 {
                 found = Some(n);
@@ -142,13 +142,13 @@ fn latest(table: &Table, method: Single, i: usize) -> Response
     let row = one_row::charged(table, method, i);
     let any = Response::Within(Ticks(0));
     let Some(first) = longest(table, i) else {
-        let plain = accesses::plain_access(*task);
-        return later_under(table, method, i, limit, &row, plain, any);
+        let plain = accesses::plain_access(task);
+        return later_under(table, method, i, limit, &row, &plain, any);
     };
-    let access = table.accesses[first];
+    let access = &table.accesses[first];
     let mut latest = later_under(table, method, i, limit, &row, access, any);
     for n in 0..table.access_count {
-        let access = table.accesses[n];
+        let access = &table.accesses[n];
         if access.may_block(i) {
             if n != first {
                 latest = later_under(table, method, i, limit, &row, access, latest);

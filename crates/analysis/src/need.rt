@@ -80,16 +80,16 @@ fn need_while(
     method: Single,
     i: usize,
     row: &[Charge; 32],
-    access: Access,
+    access: &Access,
     so_far: Response,
 ) -> Need
-    requires { AcceptedTable table.now × (i < table.now.count) × Begun table.now method i row.now × Blocks i access }
-    ensures { result ≡ need_with (λ a. later so_far (least_under table.now a method i 250000000)) method access }
+    requires { AcceptedTable table.now × (i < table.now.count) × Begun table.now method i row.now × Blocks i access.now }
+    ensures { result ≡ need_with (λ a. later so_far (least_under table.now a method i 250000000)) method access.now }
 {
     Need {
         method,
         time: crate::later_under(table, method, i, FURTHEST, row, access, so_far),
-        blocker: access,
+        blocker: *access,
     }
 }
 
@@ -111,7 +111,7 @@ fn need_under(table: &Table, method: Single, i: usize) -> Need
     let row = one_row::charged(table, method, i);
     let mut largest: Option<Need> = None;
     for n in 0..table.access_count {
-        let access = table.accesses[n];
+        let access = &table.accesses[n];
         if access.may_block(i) {
             let time = time_of(largest);
             largest = Some(need_while(table, method, i, &row, access, time).or_larger(largest));
@@ -124,7 +124,7 @@ fn need_under(table: &Table, method: Single, i: usize) -> Need
             method,
             i,
             &row,
-            accesses::plain_access(*table.task(i)),
+            &accesses::plain_access(table.task(i)),
             Response::Within(Ticks(0)),
         ),
     }

@@ -8,19 +8,21 @@ ghost use Rattle.table.specs.Accepted.{AcceptedTable};
 ghost use Rattle.analysis.specs.declared.costs.Single.TheVariants.{EcbOnly, UcbOnly, EcbUnion};
 ghost use Rattle.analysis.specs.Row.{Charged, Begun, Evictors};
 
+use crate::costs;
 use crate::costs::{Charge, Hit, Single};
 use cache::sets::CacheSet;
 use cache::units::Reloads;
+use cache::useful::Useful;
 use shared::largest_shared;
 use table::Table;
 
-// ECB-only: as many as the pre-empting task's ECB has.
+// ECB-only: as many as the pre-empting task's ECB has, in each of the ways.
 fn ecb_only(table: &Table, i: usize, row: &mut [Charge; 32])
     requires { AcceptedTable table.now × (i < table.now.count) × (length row.old ≡ 32) }
     ensures { Charged table.now EcbOnly i 0 row.new }
 {
     for j in (0..i).rev() {
-        row[j] = Charge::NoVictim(table.task(j).ecb.size());
+        row[j] = Charge::NoVictim(costs::cleared(table, j));
     }
 }
 
@@ -32,7 +34,7 @@ fn ucb_only(table: &Table, i: usize, row: &mut [Charge; 32])
     let mut most = Hit::none(i + 1);
     for j in (0..i).rev() {
         let victim = j + 1;
-        let reloads = table.task(victim).ucb.size();
+        let reloads = table.task(victim).ucb.size(table.ways());
         let hit = Hit { reloads, victim };
         most = hit.larger(most);
         row[j] = Charge::Victim(most);
@@ -59,7 +61,7 @@ fn ecb_union(table: &Table, i: usize, row: &mut [Charge; 32])
     ensures { Charged table.now EcbUnion i 0 row.new }
 {
     let unions = evictors(table, i);
-    let mut bounds = [Reloads(CacheSet::MOST); 32];
+    let mut bounds = [Reloads(Useful::MOST); 32];
     let mut likely = i;
     for j in (0..i).rev() {
         let shared = largest_shared(table, j + 1, i + 1, unions[j], likely, &mut bounds);

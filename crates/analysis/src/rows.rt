@@ -90,18 +90,18 @@ fn search(
 fn by_row(
     table: &Table,
     i: usize,
-    access: Access,
+    access: &Access,
     terms: &Terms,
     so_far: Answers,
     counts: &mut [Count; 32],
 ) -> Answers
     requires table { AcceptedTable table.now × (i < table.now.count) }
-    requires blocks { Blocks i access }
-    requires weighed { WeighedUnder table.now access i terms.now }
+    requires blocks { Blocks i access.now }
+    requires weighed { WeighedUnder table.now access.now i terms.now }
     requires rising { Rising so_far }
-    requires started { Started ((at table.now i).work.0 + access.lasts.0) (plain_of table.now) i counts.old }
-    ensures with_one { WithOne table.now access i so_far result }
-    ensures started { Started ((at table.now i).work.0 + access.lasts.0) (plain_of table.now) i counts.new }
+    requires started { Started ((at table.now i).work.0 + access.now.lasts.0) (plain_of table.now) i counts.old }
+    ensures with_one { WithOne table.now access.now i so_far result }
+    ensures started { Started ((at table.now i).work.0 + access.now.lasts.0) (plain_of table.now) i counts.new }
 {
     let task = table.task(i);
     let own = Ticks(task.work.0 + access.lasts.0);
@@ -157,17 +157,17 @@ fn under(
     i: usize,
     ledger: &[Column; 32],
     terms: &Terms,
-    access: Access,
+    access: &Access,
     so_far: Answers,
     counts: &[Count; 32],
 ) -> Answers
     requires table { AcceptedTable table.now × (i < table.now.count) }
-    requires blocks { Blocks i access }
+    requires blocks { Blocks i access.now }
     requires ledger { Ledger table.now (i + 1) ledger.now }
     requires weighed { Weighed table.now i terms.now }
     requires rising { Rising so_far }
-    requires started { Started ((at table.now i).work.0 + access.lasts.0) (plain_of table.now) i counts.now }
-    ensures { WithOne table.now access i so_far result }
+    requires started { Started ((at table.now i).work.0 + access.now.lasts.0) (plain_of table.now) i counts.now }
+    ensures { WithOne table.now access.now i so_far result }
 {
     let mut joined = *terms;
     carried::weigh_access(table, i, ledger, access, &mut joined);
@@ -192,20 +192,20 @@ fn over_all(
     ensures started { Started (own_of (at table.now i)) (plain_of table.now) i counts.new }
 {
     let task = table.task(i);
-    let plain = accesses::plain_access(*task);
+    let plain = accesses::plain_access(task);
     if table.access_count == 0 {
-        return by_row(table, i, plain, terms, Answers::FIRST, counts);
+        return by_row(table, i, &plain, terms, Answers::FIRST, counts);
     }
     let own = Ticks(task.work.0 + task.blocking.0);
     let limit = Ticks(task.deadline.0 - task.jitter.0);
     response::least(own, &terms.none[..i], limit, counts);
     let Some(first) = crate::longest(table, i) else {
-        return by_row(table, i, plain, terms, Answers::FIRST, counts);
+        return by_row(table, i, &plain, terms, Answers::FIRST, counts);
     };
-    let access = table.accesses[first];
+    let access = &table.accesses[first];
     let mut latest = under(table, i, ledger, terms, access, Answers::FIRST, counts);
     for n in 0..table.access_count {
-        let access = table.accesses[n];
+        let access = &table.accesses[n];
         if access.may_block(i) {
             if n != first {
                 latest = under(table, i, ledger, terms, access, latest, counts);

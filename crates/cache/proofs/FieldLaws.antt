@@ -59,7 +59,7 @@ says sets f c e = go (leb sets 256 && eqb (length f) (sets / 4)) refl e
 
 -- ---- every mark is below the number of cache sets
 
-no-bit : (n s : ℕ) → n < 2 ^ s → bits_of n s ≡ true → ⊥
+pub no-bit : (n s : ℕ) → n < 2 ^ s → bits_of n s ≡ true → ⊥
 no-bit n s h e =
     let f : false ≡ true = ap (λ (x : ℕ). eqb (x % 2) 1) (sym (div-eq_of_lt h)) ∙ e in
     let z : ◌≡◌ {A = ℕ} 0 1 = cc in

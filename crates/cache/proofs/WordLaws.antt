@@ -1,5 +1,6 @@
 -- What word operations do to the set that the words stand for.
-use Rattle.std.proofs.Common.{◌≡◌, refl, sym, ap, ap₂, ◌∙◌, Bool, false, cond, ◌&&◌, ◌||◌, ℕ, zero, suc, ◌+◌, ◌*◌, ◌/◌, ◌%◌, ◌^◌, ◌≤◌, ◌<◌, mod-lt, div-one, lt_of_lt_of_le, one-add, add-one, arith, pow_mono, shr-shr, shr_lt, bit_and, bit_or, eqb, lit<}
+use Rattle.std.proofs.Common.{◌≡◌, refl, sym, ap, ap₂, ◌∙◌, Bool, true, false, cond, ◌&&◌, ◌||◌, ℕ, zero, suc, ◌+◌, ◌*◌, ◌/◌, ◌%◌, ◌^◌, ◌≤◌, ◌<◌, mod-lt, div-one, lt_of_lt_of_le, one-add, add-one, arith, pow_mono, shr-shr, shr_lt, bit_and, bit_or, eqb, eqb-true, lit<}
+use Rattle.std.proofs.Math.Bool.{and-eq-true_iff}
 use Rattle.std.proofs.Math.Arith.{lt-one, digits_lt}
 use Rattle.std.proofs.Math.Nat.{zero-div, div-eq_of_lt}
 use Rattle.std.proofs.Math.Path.{fun_ext}
@@ -8,7 +9,7 @@ use Rattle.std.proofs.lemmas.Nat.{and_block, or_block, and_shr, or_shr, and_mod,
 use Rattle.std.specs.Int.Count.{ones, ones_step}
 use Rattle.cache.specs.declared.sets.CacheSet.{CacheSet}
 use Rattle.cache.specs.Sets.{Set, ∅, ◌∪◌, ◌∩◌, size_below, size}
-use Rattle.cache.specs.Words.{bits_of, number_of, members, words_of}
+use Rattle.cache.specs.Words.{bits_of, number_of, members, is_part, words_of}
 
 -- The words' range. Where a CacheSet is a parameter, in a local or a call's result, `search rules` finds it.
 pub record WordsInRange (c : CacheSet) : Type 0 where
@@ -66,6 +67,19 @@ pub members-and : (a b : CacheSet) → WordsInRange a → WordsInRange b → mem
 unfolding ◌∩◌
 members-and = members-op bit_and ◌&&◌ and_block and_shr and_mod and-digit
 
+-- a set of which another has all shares all of it
+pub part-shared : (a b : CacheSet) → WordsInRange a → WordsInRange b → is_part a b ≡ true → (members a ∩ members b) ≡ members a
+part-shared a b p q e =
+    let r = (and-eq-true_iff _ _).0 e in
+    let s = (and-eq-true_iff _ _).0 r.0 in
+    let t = (and-eq-true_iff _ _).0 s.0 in
+    let e0 = eqb-true _ _ t.0 in
+    let e1 = eqb-true _ _ t.1 in
+    let e2 = eqb-true _ _ s.1 in
+    let e3 = eqb-true _ _ r.1 in
+    let same : each bit_and a b ≡ a = λ i. record { w0 = e0 i; w1 = e1 i; w2 = e2 i; w3 = e3 i } in
+    sym (members-and a b p q) ∙ ap members same
+
 -- ---- the size is the sum of the words' counts of ones
 
 size-below-low : (k : ℕ) (A : Set) → size_below (suc k) A ≡ cond (A 0) 1 0 + size_below k (λ s. A (suc s))
@@ -81,7 +95,7 @@ one_bit (suc (suc x)) h = absurd (omega arith)
 low_bit : (n : ℕ) → cond (bits_of n 0) 1 0 ≡ n % 2
 low_bit n = one_bit (n / 1 % 2) (mod-lt (n / 1) (lit< tt)) ∙ ap (λ (x : ℕ). x % 2) (div-one n)
 
-rest-bits : (n s : ℕ) → bits_of n (suc s) ≡ bits_of (n / 2) s
+pub rest-bits : (n s : ℕ) → bits_of n (suc s) ≡ bits_of (n / 2) s
 rest-bits n s = ap (λ (x : ℕ). eqb (x % 2) 1) (ap (λ (e : ℕ). n / 2 ^ e) (sym (one-add s)) ∙ sym (shr-shr n 1 s))
 
 pub size-below-bits : (k n : ℕ) → n < 2 ^ k → size_below k (bits_of n) ≡ ones n
@@ -92,7 +106,7 @@ size-below-bits (suc k) n h =
     ∙ ap₂ (λ (x y : ℕ). x + y) (low_bit n) (ap (size_below k) (fun_ext (rest-bits n)) ∙ size-below-bits k (n / 2) (shr_lt k 1 (rw add-one h)))
     ∙ sym (ones_step n)
 
-number_lt : (c : CacheSet) → WordsInRange c → number_of c < 2 ^ 256
+pub number_lt : (c : CacheSet) → WordsInRange c → number_of c < 2 ^ 256
 unfolding number_of
 number_lt c p = digits_lt (digits_lt (digits_lt p.in3 p.in2) p.in1) p.in0
 

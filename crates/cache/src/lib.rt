@@ -1,4 +1,4 @@
-// What a cache costs: ticks and block reloads, sets of cache sets, and the hex digits of a field.
+// What a cache costs: ticks and block reloads, sets of cache sets, useful blocks, and the digits of a field.
 #![tactic(auto)]
 
 // The number that hex digits say.
@@ -7,3 +7,5 @@ pub mod hex_digits;
 pub mod sets;
 // Ticks and block reloads.
 pub mod units;
+// Useful blocks, counted, of cache sets with ways.
+pub mod useful;

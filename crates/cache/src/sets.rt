@@ -1,10 +1,11 @@
 // Sets of cache sets, as bits of four words. specs/Sets.antt says what a set, a union and a size are,
 // specs/Words.antt which set the words stand for, and specs/Field.antt what a text field says.
 
-ghost use Rattle.std.specs.Prelude.{◌≡◌, true, ◌+◌, ◌*◌, ◌<◌, ◌≤◌, length};
+ghost use Rattle.std.specs.Prelude.{◌≡◌, ◌==◌, ◌&&◌, true, ◌+◌, ◌*◌, ◌<◌, ◌≤◌, length};
 ghost use Rattle.std.specs.Int.Count.{ones};
 ghost use Rattle.cache.specs.Sets.{◌∪◌, ◌∩◌, size};
-ghost use Rattle.cache.specs.Words.{members};
+ghost use Rattle.cache.specs.Hex.{of_words};
+ghost use Rattle.cache.specs.Words.{number_of, members, word_of, is_blank, is_part};
 ghost use Rattle.cache.specs.Stored.{held_at, stored_at};
 ghost use Rattle.cache.specs.Field.{read_set};
 
@@ -30,6 +31,14 @@ impl CacheSet {
         w2: 0,
         w3: 0,
     };
+
+    // The set of four words, the most significant first.
+    #[tactic(auto, unfolding(crate::specs::Words::number_of))]
+    pub fn of_words(w3: u64, w2: u64, w1: u64, w0: u64) -> CacheSet
+        ensures { number_of result ≡ of_words (w3, w2, w1, w0) }
+    {
+        CacheSet { w0, w1, w2, w3 }
+    }
 
     pub fn union(self, other: CacheSet) -> CacheSet
         ensures { members result ≡ members self ∪ members other }
@@ -60,22 +69,44 @@ impl CacheSet {
         Reloads(ones_in(self.w0) + ones_in(self.w1) + ones_in(self.w2) + ones_in(self.w3))
     }
 
-    fn equals(self, other: CacheSet) -> bool
-        ensures { result ≡ true → members self ≡ members other }
+    // Word `n`, which holds the cache sets 64 n to 64 n + 63.
+    #[tactic(auto, unfolding(crate::specs::Words::word_of))]
+    fn word(self, n: u64) -> u64
+        requires { n < 4 }
+        ensures { result ≡ word_of self n }
     {
-        (self.w0 == other.w0)
-            & (self.w1 == other.w1)
-            & (self.w2 == other.w2)
-            & (self.w3 == other.w3)
+        match n {
+            0 => self.w0,
+            1 => self.w1,
+            2 => self.w2,
+            _ => self.w3,
+        }
     }
 
-    // The size of what it shares with another, where its own is known: that is it, where the other holds all of it.
-    pub fn shared_size(self, own: Reloads, other: CacheSet) -> Reloads
-        requires { own.0 ≡ size (members self) }
-        ensures { result.0 ≡ size (members self ∩ members other) }
+    // Whether cache set `s` is in it.
+    pub fn has(self, s: u64) -> bool
+        requires { s < 256 }
+        ensures { result ≡ members self s }
     {
-        let both = self.intersection(other);
-        if both.equals(self) { own } else { both.size() }
+        (self.word(s / 64) >> (s % 64)) % 2 == 1
+    }
+
+    // Whether it has no member.
+    pub fn is_empty(self) -> bool
+        ensures { result ≡ is_blank self }
+    {
+        (self.w0 == 0) & (self.w1 == 0) & (self.w2 == 0) & (self.w3 == 0)
+    }
+
+    // Whether another has all of it.
+    pub fn is_in(self, other: CacheSet) -> bool
+        ensures test { result ≡ is_part self other }
+        ensures meant { result ≡ true → members self ∩ members other ≡ members self }
+    {
+        (self.w0 & other.w0 == self.w0)
+            & (self.w1 & other.w1 == self.w1)
+            & (self.w2 & other.w2 == self.w2)
+            & (self.w3 & other.w3 == self.w3)
     }
 
     // The set whose words stand at position `k` of a list, four for each position.

@@ -1,6 +1,6 @@
 -- The tasks of a scaled table, one place at a time and all at once; that a table that is scaled by more is harder; and up to which factor a C is scaled to no
 -- more than the longest.
-use Rattle.std.proofs.Common.{◌≡◌, ℕ, suc, ◌+◌, ◌*◌, ◌/◌, ◌≤◌, ◌<◌, List, ◌++◌, length, take, drop, get_or, set, map, refl, sym, ap, ◌∙◌, arith, add-one, append-nil}
+use Rattle.std.proofs.Common.{◌≡◌, ℕ, suc, ◌+◌, ◌*◌, ◌/◌, ◌≤◌, ◌<◌, List, ◌++◌, length, take, drop, get_or, set, map, refl, sym, ap, ◌∙◌, arith, add-one, append-nil, le_refl}
 use Rattle.std.proofs.Math.Nat.{mul_comm, mul-le-mul, mul-le-mul_left, le-div_iff_mul-le, lt_of_not-le, zero-mul}
 use Rattle.std.proofs.Math.ListN.{length-map, drop_of_length-le, get_or-map}
 use Rattle.std.proofs.Math.Seq.{length-take-le, take_all, take-suc, drop-cons, append_snoc, set_at, get_or_at}
@@ -8,10 +8,11 @@ use Rattle.std.proofs.lemmas.List.{take-map, map-append}
 use Rattle.std.specs.List.{All}
 use Rattle.search.proofs.DemandLaws.{ceil-le, ceil-mul}
 use Rattle.cache.specs.declared.units.Ticks.{Ticks}
+use Rattle.cache.specs.Levels.{counts}
 use Rattle.table.specs.declared.tasks.Task.{Task}
 use Rattle.table.specs.Tasks.{blank}
 use Rattle.table.specs.declared.Table.{Table}
-use Rattle.table.specs.Tables.{tasks_of, at, access_at}
+use Rattle.table.specs.Tables.{ways_in, tasks_of, at, access_at}
 use Rattle.analysis.specs.Harder.{HarderTask, Harder}
 use Rattle.growth.specs.Scaling.{scaled_work, scaled_task, scaled_by}
 
@@ -97,6 +98,7 @@ abbrev pub with_tasks : Table → List Task → Table
 with_tasks table ts = record {
   sets = table.sets;
   brt = table.brt;
+  form = table.form;
   count = table.count;
   tasks = ts;
   access_count = table.access_count;
@@ -109,14 +111,14 @@ pub work-mono : (c k l : ℕ) → k ≤ l → scaled_work k c ≤ scaled_work l 
 work-mono c k l h =
     (ceil-le (c * k) (scaled_work l c) 1000 (omega arith)).1 (omega (arith, ceil-mul (c * l) 1000 (omega arith), mul-le-mul_left c h))
 
-harder-task : (t : Task) (k l : ℕ) → k ≤ l → HarderTask (scaled_task k t) (scaled_task l t)
-harder-task t k l h = record {
+harder-task : (ways : ℕ) (t : Task) (k l : ℕ) → k ≤ l → HarderTask ways (scaled_task k t) (scaled_task l t)
+harder-task ways t k l h = record {
   work = work-mono t.work.0 k l h;
   period = omega arith;
   deadline = omega arith;
   jitter = omega arith;
   blocking = omega arith;
-  ucb = λ s m. m;
+  ucb = λ s. le_refl (counts ways t.ucb s);
   ecb = λ s m. m;
 }
 
@@ -125,10 +127,11 @@ unfolding scaled_by
 harder-scaled table k l h = record {
   count = refl;
   sets = refl;
+  ways = refl;
   brt = omega arith;
-  tasks = λ j b. rw (scaled_at k table j, scaled_at l table j) (harder-task (at table j) k l h);
+  tasks = λ j b. rw (scaled_at k table j, scaled_at l table j) (harder-task (ways_in table) (at table j) k l h);
   access-count = refl;
-  accesses = λ n b. rw (scaled-access k table n, scaled-access l table n) (record { task = refl; ceiling = refl; lasts = omega arith; ucb = λ s m. m });
+  accesses = λ n b. rw (scaled-access k table n, scaled-access l table n) (record { task = refl; ceiling = refl; lasts = omega arith; ucb = λ s. le_refl (counts (ways_in table) (access_at table n).ucb s) });
 }
 
 -- ---- the longest C, 250,000,000 ticks

@@ -8,6 +8,7 @@ use Rattle.std.specs.List.{All}
 use Rattle.table.specs.Cut.{fields, lines}
 use Rattle.table.specs.Fields.{read_digits}
 use Rattle.table.specs.declared.tasks.name.Name.{Name}
+use Rattle.cache.specs.declared.useful.Form.{Form}
 use Rattle.table.specs.declared.tasks.Task.{Task}
 use Rattle.table.specs.declared.tasks.head.Head.{Head}
 use Rattle.table.specs.Tasks.{name_text, name_in, blank, empty_task}
@@ -21,7 +22,7 @@ use Rattle.table.specs.Tables.{at}
 use Rattle.table.specs.Accepted.{AcceptedTable}
 use Rattle.table.specs.Reading.{is_blocked, first_blocked, ended, read_text}
 use Rattle.writing.specs.Text.{spelled}
-use Rattle.writing.specs.Marks.{marks_text}
+use Rattle.writing.specs.Marks.{useful_text}
 use Rattle.table.specs.declared.refusals.Refusal.{Refusal}
 use Rattle.table_text.specs.TableText.{task_fields, access_fields, lines_of, line_text, table_text}
 use Rattle.table_text.specs.Readable.{Whole, Readable}
@@ -51,8 +52,9 @@ lists table (text, e) =
     record { head = r.head; tasks = r.tasks; accesses = r.others; is = r.is; passed = r.passed; ends = ap (λ (t : Table). is_ok (ended t)) (sym r.is) ∙ r.ends }
 
 -- no task that a line can say has a C above the longest
-work-small : (sets : ℕ) (ts : List Task) → are_next sets [] ts ≡ true → (j : ℕ) (d : Task) → j < length ts → (get_or ts j d).work.0 ≤ 250000000
-work-small sets ts e j d h = (ranges (times_of (get_or ts j d)) (next-holds sets (take j ts) (get_or ts j d) (next-at sets [] ts j d e h)).in-range).work.1
+work-small : (form : Form) (sets : ℕ) (ts : List Task) → are_next form sets [] ts ≡ true → (j : ℕ) (d : Task) → j < length ts → (get_or ts j d).work.0 ≤ 250000000
+work-small form sets ts e j d h =
+    (ranges (times_of (get_or ts j d)) (next-holds form sets (take j ts) (get_or ts j d) (next-at form sets [] ts j d e h)).in-range).work.1
 
 abbrev Small : Task → Type 0
 Small t = t.work.0 ≤ 250000000
@@ -68,7 +70,7 @@ readable-scalable table readable k h =
     }
   where
     each : (r : Lists table) → All Small r.tasks
-    each r j d b = work-small r.head.sets r.tasks r.passed.tasks j d b
+    each r j d b = work-small r.head.form r.head.sets r.tasks r.passed.tasks j d b
 
 -- ---- a scaled task passes the tests that it passed, where its C is no more than the longest
 
@@ -100,6 +102,7 @@ module _ (k : ℕ) where
         λ i. record {
           sets = h.sets;
           brt = h.brt;
+          form = h.form;
           count = sym long i;
           tasks = places i;
           access_count = length accesses;
@@ -114,20 +117,20 @@ module _ (k : ℕ) where
         rw (le-leb 1 (scaled_work k t.work.0) (work-some t.work.0 k r.0 some), le-leb (scaled_work k t.work.0) 250000000 fits)
         (rw (le-leb 1 t.work.0 r.0, le-leb t.work.0 250000000 r.1) at e)
 
-    next-scaled : (sets : ℕ) (above : List Task) (t : Task) → scaled_work k t.work.0 ≤ 250000000 → is_next sets above t ≡ true → is_next sets (map (scaled_task k) above) (scaled_task k t) ≡ true
+    next-scaled : (form : Form) (sets : ℕ) (above : List Task) (t : Task) → scaled_work k t.work.0 ≤ 250000000 → is_next form sets above t ≡ true → is_next form sets (map (scaled_task k) above) (scaled_task k t) ≡ true
     unfolding is_next times_in_order
-    next-scaled sets above t fits e =
-        let h = next-holds sets above t e in
+    next-scaled form sets above t fits e =
+        let h = next-holds form sets above t e in
         rw (h.filled, in-range-scaled t fits h.in-range, h.in_order, h.ucb, h.ecb, knows-scaled t.name above, h.new-name)
 
-    are-scaled : (sets : ℕ) (above ts : List Task) → ((j : ℕ) → j < length ts → scaled_work k (get_or ts j blank).work.0 ≤ 250000000)
-        → are_next sets above ts ≡ true → are_next sets (map (scaled_task k) above) (map (scaled_task k) ts) ≡ true
+    are-scaled : (form : Form) (sets : ℕ) (above ts : List Task) → ((j : ℕ) → j < length ts → scaled_work k (get_or ts j blank).work.0 ≤ 250000000)
+        → are_next form sets above ts ≡ true → are_next form sets (map (scaled_task k) above) (map (scaled_task k) ts) ≡ true
     unfolding are_next
-    are-scaled sets above [] fits e = refl
-    are-scaled sets above (t ∷ ts) fits e =
-        let p = both (is_next sets above t) _ e in
-        rw (next-scaled sets above t (fits 0 (omega arith)) p.0)
-        (rw (map-append (scaled_task k) above (t ∷ [])) at (are-scaled sets (above ++ (t ∷ [])) ts (λ j b. fits (suc j) (omega arith)) p.1))
+    are-scaled form sets above [] fits e = refl
+    are-scaled form sets above (t ∷ ts) fits e =
+        let p = both (is_next form sets above t) _ e in
+        rw (next-scaled form sets above t (fits 0 (omega arith)) p.0)
+        (rw (map-append (scaled_task k) above (t ∷ [])) at (are-scaled form sets (above ++ (t ∷ [])) ts (λ j b. fits (suc j) (omega arith)) p.1))
 
 -- ---- a line of a task that is that of another has its C
 
@@ -135,40 +138,42 @@ module _ (k : ℕ) where
 spelled-once : (m n : ℕ) → spelled m ≡ spelled n → m ≡ n
 spelled-once m n e = let same : Some m ≡ Some n = sym (digits-read m) ∙ ap (read_digits 0) e ∙ digits-read n in cc
 
-no-access-line : (sets other : ℕ) (us : List Task) (accesses : List Access) (t : Task) (j : ℕ) → get_or (map (access_fields other us) accesses) j [] ≡ task_fields sets t → ⊥
-no-access-line sets other us [] t j e = cc
-no-access-line sets other us (a ∷ accesses) t zero e = let z : ◌≡◌ {A = ℕ} 65 84 = cc in omega arith
-no-access-line sets other us (a ∷ accesses) t (suc j) e = no-access-line sets other us accesses t j e
+no-access-line : (form its : Form) (sets other : ℕ) (us : List Task) (accesses : List Access) (t : Task) (j : ℕ)
+    → get_or (map (access_fields its other us) accesses) j [] ≡ task_fields form sets t → ⊥
+no-access-line form its sets other us [] t j e = cc
+no-access-line form its sets other us (a ∷ accesses) t zero e = let z : ◌≡◌ {A = ℕ} 65 84 = cc in omega arith
+no-access-line form its sets other us (a ∷ accesses) t (suc j) e = no-access-line form its sets other us accesses t j e
 
 -- so among lines whose tasks have no C above the longest no task line has
-line-small : (sets other : ℕ) (ts us : List Task) (accesses : List Access) → ((i : ℕ) → i < length ts → (get_or ts i blank).work.0 ≤ 250000000) → (t : Task) (j : ℕ)
-    → get_or (map (task_fields other) ts ++ map (access_fields other us) accesses) j [] ≡ task_fields sets t → t.work.0 ≤ 250000000
-line-small sets other [] us accesses small t j e = absurd (no-access-line sets other us accesses t j e)
-line-small sets other (u ∷ ts) us accesses small t zero e =
+line-small : (form its : Form) (sets other : ℕ) (ts us : List Task) (accesses : List Access) → ((i : ℕ) → i < length ts → (get_or ts i blank).work.0 ≤ 250000000) → (t : Task) (j : ℕ)
+    → get_or (map (task_fields its other) ts ++ map (access_fields its other us) accesses) j [] ≡ task_fields form sets t → t.work.0 ≤ 250000000
+line-small form its sets other [] us accesses small t j e = absurd (no-access-line form its sets other us accesses t j e)
+line-small form its sets other (u ∷ ts) us accesses small t zero e =
     let same : u.work.0 ≡ t.work.0 = spelled-once _ _ (ap (λ (l : List (List ℕ)). get_or l 2 []) e) in
     omega (arith, small 0 (omega arith))
-line-small sets other (u ∷ ts) us accesses small t (suc j) e = line-small sets other ts us accesses (λ i b. small (suc i) (omega arith)) t j e
+line-small form its sets other (u ∷ ts) us accesses small t (suc j) e = line-small form its sets other ts us accesses (λ i b. small (suc i) (omega arith)) t j e
 
-task-line-at : (sets : ℕ) (ts us : List Task) (accesses : List Access) (j : ℕ) → j < length ts → get_or (map (task_fields sets) ts ++ map (access_fields sets us) accesses) j [] ≡ task_fields sets (get_or ts j blank)
-task-line-at sets [] us accesses j h = absurd (omega arith)
-task-line-at sets (t ∷ ts) us accesses zero h = refl
-task-line-at sets (t ∷ ts) us accesses (suc j) h = task-line-at sets ts us accesses j (omega arith)
+task-line-at : (form : Form) (sets : ℕ) (ts us : List Task) (accesses : List Access) (j : ℕ) → j < length ts
+    → get_or (map (task_fields form sets) ts ++ map (access_fields form sets us) accesses) j [] ≡ task_fields form sets (get_or ts j blank)
+task-line-at form sets [] us accesses j h = absurd (omega arith)
+task-line-at form sets (t ∷ ts) us accesses zero h = refl
+task-line-at form sets (t ∷ ts) us accesses (suc j) h = task-line-at form sets ts us accesses j (omega arith)
 
 -- ---- the text of a scaled table
 
 -- the lines of scaled tasks, whatever their times are
-scaled-tasks-lines : (k sets : ℕ) (above ts : List Task) → are_next sets above ts ≡ true → AreLines (map (task_fields sets) (map (scaled_task k) ts))
+scaled-tasks-lines : (form : Form) (k sets : ℕ) (above ts : List Task) → are_next form sets above ts ≡ true → AreLines (map (task_fields form sets) (map (scaled_task k) ts))
 unfolding are_next
-scaled-tasks-lines k sets above [] e = tt
-scaled-tasks-lines k sets above (t ∷ ts) e =
-    let p = both (is_next sets above t) _ e in
-    (is-line _ _ (task-plain sets (scaled_task k t) (filled-name t.name (next-holds sets above t p.0).filled).0), scaled-tasks-lines k sets (above ++ (t ∷ [])) ts p.1)
+scaled-tasks-lines form k sets above [] e = tt
+scaled-tasks-lines form k sets above (t ∷ ts) e =
+    let p = both (is_next form sets above t) _ e in
+    (is-line _ _ (task-plain form sets (scaled_task k t) (filled-name t.name (next-holds form sets above t p.0).filled).0), scaled-tasks-lines form k sets (above ++ (t ∷ [])) ts p.1)
 
 -- the lines of accesses, whose tasks keep their names
-same-accesses : (k sets : ℕ) (ts : List Task) (accesses : List Access) → map (access_fields sets (map (scaled_task k) ts)) accesses ≡ map (access_fields sets ts) accesses
-same-accesses k sets ts accesses =
+pub same-accesses : (form : Form) (k sets : ℕ) (ts : List Task) (accesses : List Access) → map (access_fields form sets (map (scaled_task k) ts)) accesses ≡ map (access_fields form sets ts) accesses
+same-accesses form k sets ts accesses =
     ap (λ (f : Access → List (List ℕ)). map f accesses)
-    (λ i a. (65 ∷ []) ∷ name_text (name-kept a.task i) ∷ name_text (name-kept a.ceiling i) ∷ spelled a.lasts.0 ∷ marks_text sets a.ucb ∷ [])
+    (λ i a. (65 ∷ []) ∷ name_text (name-kept a.task i) ∷ name_text (name-kept a.ceiling i) ∷ spelled a.lasts.0 ∷ useful_text form sets a.ucb ∷ [])
   where
     name-kept : (j : ℕ) → (get_or (map (scaled_task k) ts) j blank).name ≡ (get_or ts j blank).name
     name-kept j = ap name_in (scaled-place k ts j)
@@ -194,36 +199,37 @@ module _ (table : Table) (readable : Readable table) (k : ℕ) (some : 1 ≤ k) 
   passed-scaled fits = record {
     head = r.passed.head;
     few = omega (arith, long, r.passed.few);
-    tasks = are-scaled k some r.head.sets [] r.tasks (each-fits fits) r.passed.tasks;
+    tasks = are-scaled k some r.head.form r.head.sets [] r.tasks (each-fits fits) r.passed.tasks;
     few-accesses = r.passed.few-accesses;
     entered = rw long r.passed.entered;
   }
 
-  is-readable : FitsBy k table → is_readable (scaled_by k table) ≡ true
-  is-readable fits =
+  is-readable : FitsBy k table → length (table_text (scaled_by k table)) ≤ 16384 → is_readable (scaled_by k table) ≡ true
+  is-readable fits short =
       ap is_readable scaled-is
       ∙ lists-readable r.head ts r.accesses (passed-scaled fits) (ap (λ (e : Result (Unit {0}) Refusal). is_ok e) (ended-scaled k r.head r.tasks r.accesses) ∙ r.ends)
+      (rw scaled-is at short)
 
   whole-scaled : Whole (scaled_by k table)
   whole-scaled =
       subst Whole (sym scaled-is)
       (record { tasks = filled-long empty_task ts (omega (arith, long, r.passed.few)); accesses = filled-long empty_access r.accesses r.passed.few-accesses })
 
-  -- where no C is scaled beyond the longest, the text of the scaled table is accepted as that table
-  pub scaled-reads : FitsBy k table → read_text (table_text (scaled_by k table)) ≡ Ok (scaled_by k table)
-  scaled-reads fits = reads-back (scaled_by k table) whole-scaled (is-readable fits)
+  -- where no C is scaled beyond the longest, and the text of the scaled table is no longer than one that is read, it is accepted as that table
+  pub scaled-reads : FitsBy k table → length (table_text (scaled_by k table)) ≤ 16384 → read_text (table_text (scaled_by k table)) ≡ Ok (scaled_by k table)
+  scaled-reads fits short = reads-back (scaled_by k table) whole-scaled (is-readable fits short)
 
   -- so all that holds of an accepted table holds of it
-  pub scaled-accepted : FitsBy k table → AcceptedTable (scaled_by k table)
-  scaled-accepted fits = readable-accepted (scaled_by k table) whole-scaled (is-readable fits)
+  pub scaled-accepted : FitsBy k table → length (table_text (scaled_by k table)) ≤ 16384 → AcceptedTable (scaled_by k table)
+  scaled-accepted fits short = readable-accepted (scaled_by k table) whole-scaled (is-readable fits short)
 
   -- ---- where its text is accepted, each of its task lines is that of a task whose C is no more than the longest
 
   are-its-lines : AreLines (lines_so_far r.head ts r.accesses)
   are-its-lines =
-      let accesses : AreLines (map (access_fields r.head.sets ts) r.accesses) =
-      rw (same-accesses k r.head.sets r.tasks r.accesses) (accesses-lines r.head r.passed.head r.tasks (named r.head.sets r.tasks r.passed.tasks) r.accesses r.passed.entered) in
-      (is-line _ _ (head-plain r.head), are-lines-append _ _ (scaled-tasks-lines k r.head.sets [] r.tasks r.passed.tasks) accesses)
+      let accesses : AreLines (map (access_fields r.head.form r.head.sets ts) r.accesses) =
+      rw (same-accesses r.head.form k r.head.sets r.tasks r.accesses) (accesses-lines r.head r.passed.head r.tasks (named r.head.form r.head.sets r.tasks r.passed.tasks) r.accesses r.passed.entered) in
+      (is-line _ _ (head-plain r.head), are-lines-append _ _ (scaled-tasks-lines r.head.form k r.head.sets [] r.tasks r.passed.tasks) accesses)
 
   text-fields : map fields (lines (table_text (scaled_by k table))) ≡ lines_so_far r.head ts r.accesses
   unfolding table_text
@@ -238,8 +244,8 @@ module _ (table : Table) (readable : Readable table) (k : ℕ) (some : 1 ≤ k) 
   lists-fit result e j h =
       let q = (text-read (table_text (scaled_by k table)) result e).1 in
       let same : lines_so_far q.head q.tasks q.others ≡ lines_so_far r.head ts r.accesses = q.lines ∙ text-fields in
-      let line = ap (λ (ls : List (List (List ℕ))). get_or ls (suc j) []) same ∙ task-line-at r.head.sets ts ts r.accesses j (omega (arith, long, h)) in
-      let small = line-small r.head.sets q.head.sets q.tasks q.tasks q.others (λ i b. work-small q.head.sets q.tasks q.passed.tasks i blank b) (get_or ts j blank) j line in
+      let line = ap (λ (ls : List (List (List ℕ))). get_or ls (suc j) []) same ∙ task-line-at r.head.form r.head.sets ts ts r.accesses j (omega (arith, long, h)) in
+      let small = line-small r.head.form q.head.form r.head.sets q.head.sets q.tasks q.tasks q.others (λ i b. work-small q.head.form q.head.sets q.tasks q.passed.tasks i blank b) (get_or ts j blank) j line in
       rw (its-tasks r.head r.tasks r.accesses) (rw (scaled-place k r.tasks j) at small)
 
   pub works-fit : (result : Table) → read_text (table_text (scaled_by k table)) ≡ Ok result → FitsBy k table

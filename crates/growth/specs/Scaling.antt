@@ -28,6 +28,7 @@ unfoldable pub scaled_by : ℕ → Table → Table
 scaled_by k table = record {
   sets = table.sets;
   brt = table.brt;
+  form = table.form;
   count = table.count;
   tasks = map (scaled_task k) table.tasks;
   access_count = table.access_count;

@@ -19,9 +19,9 @@ ghost use Rattle.analysis.specs.Row.{Begun};
 ghost use Rattle.analysis.specs.BlockedRow.{ChargedUnder, FewReloads, term_by};
 ghost use Rattle.analysis.specs.Analysis.{answer_of, response_of, Blocks};
 ghost use Rattle.report.specs.Verdicts.{has_response};
-ghost use Rattle.growth.specs.Scaling.{scaled_by};
+ghost use Rattle.growth.specs.Scaling.{FitsBy, scaled_by};
 ghost use Rattle.growth.specs.Growth.{growth_of, Bounds};
-ghost use Rattle.growth.specs.Tried.{answers_under, Stretches, FitsUpTo};
+ghost use Rattle.growth.specs.Tried.{answers_under, text_fits, Stretches, FitsUpTo};
 
 use crate::scaling::scaled_work;
 use analysis::costs::{Charge, Single};
@@ -32,12 +32,16 @@ use search::response;
 use search::response::Count;
 use table::accesses::Access;
 use table::{Table, accesses};
+use table_text::extent;
 
 // The greatest k that is tried.
 const MOST_TRIED: u64 = 4000;
 
 // What C times k may not be above: the longest C, in thousandths.
 const LONGEST: u64 = 250000000000;
+
+// No text that is read is longer.
+const LONGEST_TEXT: usize = 16384;
 
 // What the task at j asks for with C scaled by k, and with so many reloads in its weight.
 fn scaled_term(table: &Table, j: usize, reloads: Reloads, k: u64) -> Term
@@ -109,12 +113,12 @@ fn by_charges(
     method: Single,
     i: usize,
     row: &[Charge; 32],
-    access: Access,
+    access: &Access,
     most: u64,
     likely: &mut Ticks,
 ) -> u64
-    requires { Stretches table.now most × (i < table.now.count) × ChargedUnder table.now access method i 0 row.now × Blocks i access }
-    ensures { Bounds (answers_under table.now access method i) most result }
+    requires { Stretches table.now most × (i < table.now.count) × ChargedUnder table.now access.now method i 0 row.now × Blocks i access.now }
+    ensures { Bounds (answers_under table.now access.now method i) most result }
 {
     if most == 0 {
         return 0;
@@ -156,12 +160,12 @@ fn under(
     method: Single,
     i: usize,
     row: &[Charge; 32],
-    access: Access,
+    access: &Access,
     most: u64,
     likely: &mut Ticks,
 ) -> u64
-    requires { Stretches table.now most × (i < table.now.count) × Begun table.now method i row.now × Blocks i access }
-    ensures { Bounds (answers_under table.now access method i) most result }
+    requires { Stretches table.now most × (i < table.now.count) × Begun table.now method i row.now × Blocks i access.now }
+    ensures { Bounds (answers_under table.now access.now method i) most result }
 {
     match method {
         Single::None | Single::EcbOnly => by_charges(table, method, i, row, access, most, likely),
@@ -180,13 +184,13 @@ fn over_blockers(table: &Table, method: Single, i: usize, most: u64, likely: &mu
 {
     let row = one_row::charged(table, method, i);
     let Some(first) = analysis::longest(table, i) else {
-        let plain = accesses::plain_access(*table.task(i));
-        return under(table, method, i, &row, plain, most, likely);
+        let plain = accesses::plain_access(table.task(i));
+        return under(table, method, i, &row, &plain, most, likely);
     };
-    let access = table.accesses[first];
+    let access = &table.accesses[first];
     let mut left = under(table, method, i, &row, access, most, likely);
     for n in 0..table.access_count {
-        let access = table.accesses[n];
+        let access = &table.accesses[n];
         if access.may_block(i) {
             if n != first {
                 left = under(table, method, i, &row, access, left, likely);
@@ -238,12 +242,46 @@ fn fits_up_to(table: &Table) -> u64
     most
 }
 
+// Whether the text of the table scaled by k is no longer than one that is read.
+fn text_fits(table: &Table, k: u64) -> bool
+    requires { Readable table.now × (k ≤ 4000) }
+    ensures { result ≡ text_fits table.now k }
+{
+    let mut scaled = *table;
+    scaling::scale(&mut scaled, k);
+    extent::length(&scaled) <= LONGEST_TEXT
+}
+
+// The greatest k up to `most` at which it is: where C grow, so does their text. Most texts are so short that it is at every k, since no C has more than nine digits.
+fn texts_up_to(table: &Table, most: u64) -> u64
+    requires { Readable table.now × (most ≤ 4000) × FitsBy most table.now }
+    ensures { Bounds (text_fits table.now) most result }
+{
+    if extent::length(table) + 8 * table.count <= LONGEST_TEXT {
+        return most;
+    }
+    if text_fits(table, most) {
+        return most;
+    }
+    let mut short: u64 = 0;
+    let mut long = most;
+    while short + 1 < long {
+        let middle = (short + long) / 2;
+        if text_fits(table, middle) {
+            short = middle;
+        } else {
+            long = middle;
+        }
+    }
+    short
+}
+
 // The growth that is left of a table under a method.
 pub fn growth(table: &Table, method: Method) -> u64
     requires { Readable table.now }
     ensures { result ≡ growth_of method table.now }
 {
-    let mut left = fits_up_to(table);
+    let mut left = texts_up_to(table, fits_up_to(table));
     let mut likely = Ticks(0);
     for i in (0..table.count).rev() {
         if left == 0 {

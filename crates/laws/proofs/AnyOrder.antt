@@ -3,19 +3,21 @@
 use Rattle.std.proofs.Common.{ℕ, ◌+◌, max, ◌<◌, zero-le, add_comm, add_assoc, arith, ◌≡◌, refl, sym, ap, ap₂, ◌∙◌, List, map}
 use Rattle.std.proofs.Math.Path.{fun_ext}
 use Rattle.cache.specs.Sets.{Set, ∅, ◌∪◌, ◌∩◌, size}
-use Rattle.cache.proofs.SetLaws.{union_comm, union_assoc, union_self, size-split}
+use Rattle.cache.proofs.SetLaws.{union_comm, union_assoc, union_self}
+use Rattle.cache.specs.Counts.{Counts, nothing, ◌⊕◌, capped, ◌on◌, total}
+use Rattle.cache.proofs.CountLaws.{on_both, total-split, add_comm as counts_comm, add_assoc as counts_assoc}
 use Rattle.table.specs.Tasks.{limit_of}
 use Rattle.table.specs.declared.accesses.Access.{Access}
 use Rattle.table.specs.Accesses.{added_by}
 use Rattle.table.specs.declared.Table.{Table}
-use Rattle.table.specs.Tables.{at}
+use Rattle.table.specs.Tables.{ways_in, at}
 use Rattle.search.specs.Positions.{hp}
 use Rattle.search.specs.declared.demand.Term.{Term}
 use Rattle.search.specs.Demand.{work_of, demand_of}
 use Rattle.search.specs.declared.demand.Response.{Response}
 use Rattle.search.specs.Least.{least_of, sooner, latest_of}
 use Rattle.search.proofs.DemandLaws.{demand-same}
-use Rattle.analysis.specs.Gather.{aff, union_of, largest_of, hit, largest_at}
+use Rattle.analysis.specs.Gather.{aff, union_of, counts_over, largest_of, hit, largest_at}
 use Rattle.analysis.specs.declared.costs.Single.{Single}
 use Rattle.analysis.specs.declared.costs.Single.TheVariants.{None, EcbOnly, UcbOnly, UcbUnion, EcbUnion}
 use Rattle.analysis.specs.Costs.{ucb_of, ecb_of, reloads_with, term_with, term_under}
@@ -39,8 +41,12 @@ pub union_idempotent : (A : Set) → (A ∪ A) ≡ A
 union_idempotent = union_self
 
 -- the sizes of what is shared add up
-pub sizes-add-up : (U A B : Set) → SizesAddUp U A B
-sizes-add-up = size-split
+pub sizes-add-up : (U : Counts) (A B : Set) → SizesAddUp U A B
+sizes-add-up U A B = ap (λ (S : Counts). total (U on (A ∪ B)) + total S) (sym (on_both U A B)) ∙ total-split U A B
+
+-- counts are added in any order
+pub counts-unordered : Unordered ◌⊕◌
+counts-unordered = record { comm = counts_comm; assoc = counts_assoc }
 
 -- ---- gathered over positions in any order, each exactly once: `fold-any-order` (PermutationLaws.antt) is the law, for every operation that is unordered
 
@@ -63,27 +69,31 @@ demand-each-once own terms i ks p = demand-any-order own terms i ks (once-permut
 pub union-any-order : (F : ℕ → Set) (ks ls : List ℕ) → Permutation ks ls → union_of F ks ≡ union_of F ls
 union-any-order F = fold-any-order union-unordered ∅ F
 
+-- a sum of counts
+pub counts-any-order : (F : ℕ → Counts) (ks ls : List ℕ) → Permutation ks ls → counts_over F ks ≡ counts_over F ls
+counts-any-order F = fold-any-order counts-unordered nothing F
+
 -- the largest value
 pub largest-any-order : (F : ℕ → ℕ) (ks ls : List ℕ) → Permutation ks ls → largest_of F ks ≡ largest_of F ls
 largest-any-order F = fold-any-order largest-unordered 0 F
 
 -- ---- the equation of a task
 
--- g(i, j), whatever access adds the set X and whosever it is
-module _ (U E : ℕ → Set) (X : Set) (k i j : ℕ) (affected evicting : List ℕ) (a : Permutation affected (aff i j)) (e : Permutation evicting (hp (j + 1))) where
+-- g(i, j), whatever access adds the useful blocks X and whosever it is
+module _ (ways : ℕ) (U : ℕ → Counts) (E : ℕ → Set) (X : Counts) (k i j : ℕ) (affected evicting : List ℕ) (a : Permutation affected (aff i j)) (e : Permutation evicting (hp (j + 1))) where
   largest-with : (F : ℕ → ℕ) (n : ℕ) → max (largest_of F affected) n ≡ max (largest_at F (aff i j)).reloads.0 n
   largest-with F n = ap (λ (v : ℕ). max v n) (largest-any-order F affected (aff i j) a ∙ sym (largest-count _ F (aff i j)))
 
-  pub reloads-any-order : (m : Single) → reloads_over U E X m j affected evicting ≡ reloads_with U E X k m i j
+  pub reloads-any-order : (m : Single) → reloads_over ways U E X m j affected evicting ≡ reloads_with ways U E X k m i j
   unfolding reloads_with
   reloads-any-order None = refl
   reloads-any-order EcbOnly = refl
-  reloads-any-order UcbOnly = largest-with (λ k. size (U k)) (size X) ∙ sym (larger-count _ (hit (size X) k))
-  reloads-any-order UcbUnion = ap (λ (A : Set). size ((A ∪ X) ∩ E j)) (union-any-order U affected (aff i j) a)
+  reloads-any-order UcbOnly = largest-with (λ k. total (U k)) (total X) ∙ sym (larger-count _ (hit (total X) k))
+  reloads-any-order UcbUnion = ap (λ (S : Counts). total (capped ways (S ⊕ X) on E j)) (counts-any-order U affected (aff i j) a)
   reloads-any-order EcbUnion =
-      ap (λ (A : Set). max (largest_of (λ k. size (U k ∩ A)) affected) (size (X ∩ A))) (union-any-order E evicting (hp (j + 1)) e)
-      ∙ largest-with (λ k. size (U k ∩ union_of E (hp (j + 1)))) (size (X ∩ union_of E (hp (j + 1))))
-      ∙ sym (larger-count _ (hit (size (X ∩ union_of E (hp (j + 1)))) k))
+      ap (λ (A : Set). max (largest_of (λ k. total (U k on A)) affected) (total (X on A))) (union-any-order E evicting (hp (j + 1)) e)
+      ∙ largest-with (λ k. total (U k on union_of E (hp (j + 1)))) (total (X on union_of E (hp (j + 1))))
+      ∙ sym (larger-count _ (hit (total (X on union_of E (hp (j + 1)))) k))
 
 -- the demand of the task at i while an access blocks it
 pub equation-any-order : (table : Table) (a : Access) (m : Single) (i : ℕ) (arranged : Arrangement i) (r : ℕ)
@@ -98,7 +108,7 @@ equation-any-order table a m i arranged r =
     terms : (j : ℕ) → j < i → term_arranged table a m i arranged j ≡ term_under table a m i j
     terms j l =
         ap (λ (n : ℕ). term_with table j n)
-        (reloads-any-order (ucb_of table) (ecb_of table) (added_by a j) a.task i j (arranged.affected j) (arranged.evicting j)
+        (reloads-any-order (ways_in table) (ucb_of table) (ecb_of table) (added_by (ways_in table) a j) a.task i j (arranged.affected j) (arranged.evicting j)
         (arranged.affected-is j l) (arranged.evicting-is j l) m)
 
 -- its answer under a method that counts

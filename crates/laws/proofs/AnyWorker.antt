@@ -73,18 +73,18 @@ module _ {before after before' after' : List ℕ} {one other : Result ℕ Refusa
   report-calls-agree text = written-calls-agree
 
   pub explain-calls-agree : (text : List ℕ) (m i : ℕ) → TextExplained text m i before one after → TextExplained text m i before' other after'
-      → SameRoom 1317 before before' → CallsAgree one other before after before' after'
+      → SameRoom 1348 before before' → CallsAgree one other before after before' after'
   explain-calls-agree text m i = written-calls-agree
 
-  pub rewrite-calls-agree : (text : List ℕ) → TextRewritten text before one after → TextRewritten text before' other after' → SameRoom 9293 before before'
+  pub rewrite-calls-agree : (text : List ℕ) → TextRewritten text before one after → TextRewritten text before' other after' → SameRoom 16384 before before'
       → CallsAgree one other before after before' after'
   rewrite-calls-agree text = written-calls-agree
 
-  pub scaled-calls-agree : (text : List ℕ) (m : ℕ) → TextScaled text m before one after → TextScaled text m before' other after' → SameRoom 9293 before before'
+  pub scaled-calls-agree : (text : List ℕ) (m : ℕ) → TextScaled text m before one after → TextScaled text m before' other after' → SameRoom 16384 before before'
       → CallsAgree one other before after before' after'
   scaled-calls-agree text m = written-calls-agree
 
-  pub write-calls-agree : (table : Table) → TableWritten table before one after → TableWritten table before' other after' → SameRoom 9293 before before'
+  pub write-calls-agree : (table : Table) → TableWritten table before one after → TableWritten table before' other after' → SameRoom 16384 before before'
       → CallsAgree one other before after before' after'
   write-calls-agree table p q = written-calls-agree p.written q.written
 

@@ -33,7 +33,7 @@ blocked-short g = g.blocker.blocks.lasts
 module _ {table : Table} {need : Need} {i : ℕ} (g : Grounds table need i) {row : List Charge} (p : ChargedUnder table need.blocker need.method i 0 row)
     (j : ℕ) (above : j < i) where
   pub line-few : reloads_in (charge_in row j) ≤ 2048
-  line-few = (row-few table need.blocker need.method i p).few j above
+  line-few = (row-few table need.blocker need.method i p g.accepted).few j above
 
   line-term : term_with table j (reloads_in (charge_in row j)) ≡ term_under table need.blocker need.method i j
   line-term = row-term table need.blocker need.method i p j above

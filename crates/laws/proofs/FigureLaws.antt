@@ -1,4 +1,4 @@
--- A response rests on the block reload time, on the tasks without their names, and on the accesses; so each figure is that of every such table.
+-- A response rests on the ways, on the block reload time, on the tasks without their names, and on the accesses; so each figure is that of every such table.
 use Rattle.std.proofs.Common.{ℕ, ◌+◌, ◌*◌, ◌<◌, List, map, length, get_or, ◌≡◌, sym, ap, ap₂, ◌∙◌}
 use Rattle.std.specs.List.{All}
 use Rattle.std.proofs.Math.Path.{fun_ext}
@@ -6,6 +6,7 @@ use Rattle.std.proofs.Math.ListN.{get_or-map}
 use Rattle.std.proofs.lemmas.List.{get_or-map as get_or-map-in}
 use Rattle.cache.specs.declared.units.Ticks.{Ticks}
 use Rattle.cache.specs.Words.{members}
+use Rattle.cache.specs.Levels.{counts}
 use Rattle.search.specs.declared.demand.Response.{Response}
 use Rattle.search.specs.Demand.{term_of, demand_of}
 use Rattle.search.specs.Least.{least_of, sooner, latest_of}
@@ -14,7 +15,7 @@ use Rattle.table.specs.Tasks.{limit_of, blank}
 use Rattle.table.specs.declared.accesses.Access.{Access}
 use Rattle.table.specs.Accesses.{added_by, blocking, or_else, plain_access}
 use Rattle.table.specs.declared.Table.{Table}
-use Rattle.table.specs.Tables.{tasks_of, at, accesses_of}
+use Rattle.table.specs.Tables.{ways_in, tasks_of, at, accesses_of}
 use Rattle.analysis.specs.declared.costs.Single.{Single}
 use Rattle.analysis.specs.declared.costs.Single.TheVariants.{UcbUnion, EcbUnion}
 use Rattle.analysis.specs.declared.costs.Charge.{Charge}
@@ -26,13 +27,13 @@ use Rattle.analysis.specs.Figures.{Figure, figures, ChargeFigure, charge_figures
 use Rattle.analysis.proofs.Figures.{figures-hold, charge-figures-hold}
 use Rattle.laws.specs.Figures.{unnamed, IsTableOf, IsFigured, IsChargeFigured}
 
--- an answer by its parts: what stands at each position, the block reload time, and the accesses
-abbrev answer_by : (ℕ → Task) → Ticks → List Access → Single → ℕ → Response
-answer_by T brt accesses m i =
+-- an answer by its parts: the ways, what stands at each position, the block reload time, and the accesses
+abbrev answer_by : ℕ → (ℕ → Task) → Ticks → List Access → Single → ℕ → Response
+answer_by ways T brt accesses m i =
     latest_of (map
     (λ a. least_of
     (demand_of ((T i).work.0 + a.lasts.0)
-    (λ j. term_of (T j).period.0 (T j).jitter.0 ((T j).work.0 + brt.0 * reloads_with (λ k. members (T k).ucb) (λ k. members (T k).ecb) (added_by a j) a.task m i j))
+    (λ j. term_of (T j).period.0 (T j).jitter.0 ((T j).work.0 + brt.0 * reloads_with ways (λ k. counts ways (T k).ucb) (λ k. members (T k).ecb) (added_by ways a j) a.task m i j))
     i)
     (limit_of (T i)))
     (or_else (plain_access (T i)) (blocking i accesses)))
@@ -51,8 +52,9 @@ module _ (figure table : Table) (like : IsTableOf figure table) where
   same-answer : (m : Single) (i : ℕ) → answer_of table m i ≡ answer_of figure m i
   unfolding answer_of
   same-answer m i =
-      ap (λ (T : ℕ → Task). answer_by T table.brt (accesses_of table) m i) same-tasks
-      ∙ ap₂ (λ (brt : Ticks) (accesses : List Access). answer_by (λ k. at figure k) brt accesses m i) like.brt like.accesses
+      ap (λ (T : ℕ → Task). answer_by (ways_in table) T table.brt (accesses_of table) m i) same-tasks
+      ∙ ap₂ (λ (brt : Ticks) (accesses : List Access). answer_by (ways_in table) (λ k. at figure k) brt accesses m i) like.brt like.accesses
+      ∙ ap (λ (ways : ℕ). answer_by ways (λ k. at figure k) figure.brt (accesses_of figure) m i) like.ways
 
   same-response : (m : Method) (i : ℕ) → response_of table m i ≡ response_of figure m i
   unfolding response_of
@@ -60,7 +62,9 @@ module _ (figure table : Table) (like : IsTableOf figure table) where
   same-response Combined i = ap₂ sooner (same-answer UcbUnion i) (same-answer EcbUnion i)
 
   same-charge : (m : Single) (i j : ℕ) → charge_at table m i j ≡ charge_at figure m i j
-  same-charge m i j = ap (λ (T : ℕ → Task). charge_of (λ k. members (T k).ucb) (λ k. members (T k).ecb) m i j) same-tasks
+  same-charge m i j =
+      ap (λ (T : ℕ → Task). charge_of (ways_in table) (λ k. counts (ways_in table) (T k).ucb) (λ k. members (T k).ecb) m i j) same-tasks
+      ∙ ap (λ (ways : ℕ). charge_of ways (λ k. counts ways (at figure k).ucb) (λ k. members (at figure k).ecb) m i j) like.ways
 
 -- where two maps agree
 same-at : {A B : Type 0} (f g : A → B) (xs : List A) → map f xs ≡ map g xs → (k : ℕ) (d : A) → k < length xs → f (get_or xs k d) ≡ g (get_or xs k d)

@@ -14,7 +14,7 @@ use Rattle.analysis.specs.declared.Method.{Method}
 use Rattle.analysis.specs.Analysis.{response_of}
 use Rattle.growth.specs.Scaling.{scaled_by}
 use Rattle.growth.specs.Growth.{passes, growth_of}
-use Rattle.growth.proofs.GrowthLaws.{fits-passes, passes-fits, growth-means}
+use Rattle.growth.proofs.GrowthLaws.{fits-passes, passes-fits, passes-short, growth-means}
 use Rattle.laws.specs.Growths.{PassesBy, IsBoundary, IsGrowth}
 
 -- ---- a verdict is `yes` just where every task has a response
@@ -48,17 +48,19 @@ module _ (table : Table) (readable : Readable table) (m : Method) where
   unfolding scaled_by
   yes-passes k some e =
       let fits = passes-fits table readable m k some e in
+      let short = passes-short table readable m k e in
       record {
         fits = fits;
+        short = short;
         responds = λ i l.
             has-some (response_of (scaled_by k table) m i)
-            (where-yes (response_of (scaled_by k table) m) table.count (sym (fits-passes table readable m k some fits) ∙ e) i l);
+            (where-yes (response_of (scaled_by k table) m) table.count (sym (fits-passes table readable m k some fits short) ∙ e) i l);
       }
 
   passes-yes : (k : ℕ) → 1 ≤ k → PassesBy table m k → passes m table k ≡ true
   unfolding scaled_by
   passes-yes k some p =
-      fits-passes table readable m k some p.fits
+      fits-passes table readable m k some p.fits p.short
       ∙ yes-where (response_of (scaled_by k table) m) table.count (λ i l. some-has (response_of (scaled_by k table) m i) (p.responds i l))
 
   growth-boundary : IsBoundary table m (growth_of m table)

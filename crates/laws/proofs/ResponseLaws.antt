@@ -10,7 +10,7 @@ use Rattle.search.specs.Least.{NoLater, sooner, IsLatest}
 use Rattle.search.proofs.LeastLaws.{least-unique}
 use Rattle.table.specs.Tasks.{limit_of}
 use Rattle.table.specs.declared.accesses.Access.{Access}
-use Rattle.table.specs.Accesses.{empty_access}
+use Rattle.table.specs.Accesses.{blank_access}
 use Rattle.table.specs.declared.Table.{Table}
 use Rattle.table.specs.Tables.{at}
 use Rattle.analysis.specs.declared.costs.Single.{Single}
@@ -42,9 +42,9 @@ module _ (A : Access → Response) (Least : Response → Access → Type 0) (lea
   latest-one =
       let w = p.one in
       let h : w.0 < length l = rw (← length-map l A) w.1 in
-      let a = get_or l w.0 empty_access in
-      let is : A a ≡ r = sym (get_or-map A l w.0 empty_access Unschedulable h) ∙ w.2 in
-      (w.0, a, h, get_or_default l w.0 a empty_access h, subst (λ (x : Response). Least x a) is (least a))
+      let a = get_or l w.0 blank_access in
+      let is : A a ≡ r = sym (get_or-map A l w.0 blank_access Unschedulable h) ∙ w.2 in
+      (w.0, a, h, get_or_default l w.0 a blank_access h, subst (λ (x : Response). Least x a) is (least a))
 
 module _ (table : Table) (m : Single) (i : ℕ) where
   least : (a : Access) → IsLeastWhile table m i (least_under table a m i (limit_of (at table i))) a

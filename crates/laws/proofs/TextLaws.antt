@@ -68,7 +68,7 @@ refusal-left : {made : Result (List ℕ) Refusal} {most : ℕ} {before after : L
     → TextWritten most made before r after → (r ≡ Err refusal) × (after ≡ before)
 refusal-left e w = (rw e at w.answer-is, rw e at w.buffer-is)
 
-pub comes-back : (text before : List ℕ) (r : Result ℕ Refusal) (after : List ℕ) → 9293 ≤ length before → TextRewritten text before r after → ComesBack text before r after
+pub comes-back : (text before : List ℕ) (r : Result ℕ Refusal) (after : List ℕ) → 16384 ≤ length before → TextRewritten text before r after → ComesBack text before r after
 comes-back text before r after h w = record { accepted = λ table e. fitting-made (rw e) h w; refused = λ refusal e. let left = refusal-left (rw e) w in (left.0, rw e at (text-low text), left.1) }
 
 no-other : {A : Type 0} {x : A} {e : Refusal} → ◌≡◌ {A = Result A Refusal} (Ok x) (Err e) → ⊥
@@ -79,7 +79,7 @@ read-back : (result : Result (Unit {0}) Refusal) (read table : Table) → then_r
 read-back (Ok tt) read table e = (refl, cc)
 read-back (Err r) read table e = absurd (no-other (sym e))
 
-module _ (table : Table) (before after : List ℕ) (room : 9293 ≤ length before) where
+module _ (table : Table) (before after : List ℕ) (room : 16384 ≤ length before) where
   -- a table that some text gives is not refused
   not-refused : (e : Refusal) → Readable table → TableWritten table before (Err e) after → ⊥
   not-refused e readable w =

@@ -1,17 +1,18 @@
 -- The equation of a task with its sum, and every union and largest value over tasks, taken in an order of its own.
-use Rattle.std.specs.Prelude.{ℕ, ◌+◌, max, ◌<◌, List, map}
-use Rattle.cache.specs.Sets.{Set, ◌∪◌, ◌∩◌, size}
+use Rattle.std.specs.Prelude.{ℕ, ◌+◌, ◌*◌, max, ◌<◌, List, map}
+use Rattle.cache.specs.Sets.{Set, size}
+use Rattle.cache.specs.Counts.{Counts, ◌⊕◌, capped, ◌on◌, total}
 use Rattle.table.specs.Tasks.{limit_of}
 use Rattle.table.specs.declared.accesses.Access.{Access}
 use Rattle.table.specs.Accesses.{added_by}
 use Rattle.table.specs.declared.Table.{Table}
-use Rattle.table.specs.Tables.{at}
+use Rattle.table.specs.Tables.{ways_in, at}
 use Rattle.search.specs.Positions.{hp, fold_by}
 use Rattle.search.specs.declared.demand.Term.{Term}
 use Rattle.search.specs.Demand.{work_of}
 use Rattle.search.specs.declared.demand.Response.{Response}
 use Rattle.search.specs.Least.{least_of, sooner, latest_of}
-use Rattle.analysis.specs.Gather.{aff, union_of, largest_of}
+use Rattle.analysis.specs.Gather.{aff, union_of, counts_over, largest_of}
 use Rattle.analysis.specs.declared.costs.Single.{Single}
 use Rattle.analysis.specs.declared.costs.Single.TheVariants.{None, EcbOnly, UcbOnly, UcbUnion, EcbUnion}
 use Rattle.analysis.specs.Costs.{ucb_of, ecb_of, term_with}
@@ -24,14 +25,14 @@ use Rattle.laws.specs.Permutations.{Permutation}
 abbrev pub demand_over : ℕ → (ℕ → Term) → List ℕ → ℕ → ℕ
 demand_over own terms ks r = fold_by ◌+◌ own (λ j. work_of r (terms j)) ks
 
--- g(i, j) under method m with X as one member more of aff(i, j), gathered over two lists: those affected, and j with those above it
-abbrev pub reloads_over : (ℕ → Set) → (ℕ → Set) → Set → Single → ℕ → List ℕ → List ℕ → ℕ
-reloads_over U E X None j affected evicting = 0
-reloads_over U E X EcbOnly j affected evicting = size (E j)
-reloads_over U E X UcbOnly j affected evicting = max (largest_of (λ k. size (U k)) affected) (size X)
-reloads_over U E X UcbUnion j affected evicting = size ((union_of U affected ∪ X) ∩ E j)
-reloads_over U E X EcbUnion j affected evicting =
-    max (largest_of (λ k. size (U k ∩ union_of E evicting)) affected) (size (X ∩ union_of E evicting))
+-- g(i, j) under method m where a cache set has so many ways, with X as one member more of aff(i, j), gathered over two lists: those affected, and j with those above it
+abbrev pub reloads_over : ℕ → (ℕ → Counts) → (ℕ → Set) → Counts → Single → ℕ → List ℕ → List ℕ → ℕ
+reloads_over ways U E X None j affected evicting = 0
+reloads_over ways U E X EcbOnly j affected evicting = size (E j) * ways
+reloads_over ways U E X UcbOnly j affected evicting = max (largest_of (λ k. total (U k)) affected) (total X)
+reloads_over ways U E X UcbUnion j affected evicting = total (capped ways (counts_over U affected ⊕ X) on E j)
+reloads_over ways U E X EcbUnion j affected evicting =
+    max (largest_of (λ k. total (U k on union_of E evicting)) affected) (total (X on union_of E evicting))
 
 -- how the positions are arranged for the equation of the task at i: those above it, those of aff(i, j), and j with those above that
 pub record Arrangement (i : ℕ) : Type 0 where
@@ -45,7 +46,7 @@ pub record Arrangement (i : ℕ) : Type 0 where
 -- what the task at j asks for while an access blocks i, and the demand of i: as `term_under` and `least_under` have them, but arranged so
 abbrev pub term_arranged : Table → Access → Single → (i : ℕ) → Arrangement i → ℕ → Term
 term_arranged table a m i arranged j =
-    term_with table j (reloads_over (ucb_of table) (ecb_of table) (added_by a j) m j (arranged.affected j) (arranged.evicting j))
+    term_with table j (reloads_over (ways_in table) (ucb_of table) (ecb_of table) (added_by (ways_in table) a j) m j (arranged.affected j) (arranged.evicting j))
 
 abbrev pub demand_arranged : Table → Access → Single → (i : ℕ) → Arrangement i → ℕ → ℕ
 demand_arranged table a m i arranged = demand_over ((at table i).work.0 + a.lasts.0) (term_arranged table a m i arranged) arranged.higher

@@ -3,7 +3,7 @@ use Rattle.std.specs.Prelude.{ℕ, ◌≡◌, [], map, All}
 use Rattle.search.specs.declared.demand.Response.{Response}
 use Rattle.table.specs.declared.tasks.Task.{Task}
 use Rattle.table.specs.declared.Table.{Table}
-use Rattle.table.specs.Tables.{tasks_of, accesses_of}
+use Rattle.table.specs.Tables.{ways_in, tasks_of, accesses_of}
 use Rattle.analysis.specs.declared.costs.Single.{Single}
 use Rattle.analysis.specs.declared.costs.Charge.{Charge}
 use Rattle.analysis.specs.declared.Method.{Method}
@@ -15,6 +15,7 @@ unnamed t = record t { name = record { bytes = [] } }
 
 -- the table of a figure, whatever the tasks are called
 pub record IsTableOf (figure table : Table) : Type 0 where
+  pub ways : ways_in table ≡ ways_in figure
   pub brt : table.brt ≡ figure.brt
   pub tasks : map unnamed (tasks_of table) ≡ tasks_of figure
   pub accesses : accesses_of table ≡ accesses_of figure

@@ -33,7 +33,7 @@ IsTextGrowth text m r = (table : Table) → ReadsAs text table → m ≤ 5 → (
 -- which is one of the numbers of texts, and the buffer is left
 pub record ComesBack (text before : List ℕ) (r : Result ℕ Refusal) (after : List ℕ) : Type 0 where
   pub accepted : (table : Table) → ReadsAs text table → (r ≡ Ok (length text)) × (after ≡ text ++ drop (length text) before)
-  pub refused : (refusal : Refusal) → read_text text ≡ Err refusal → (r ≡ Err refusal) × (reason_number refusal.reason ≤ 17) × (after ≡ before)
+  pub refused : (refusal : Refusal) → read_text text ≡ Err refusal → (r ≡ Err refusal) × (reason_number refusal.reason ≤ 18) × (after ≡ before)
 
 -- a table that some text gives is accepted again, and is the same value; of another it is told that it has no text, and nothing is read
 pub record IsReadAgain (table before : Table) (r : Result Unit Refusal) (again : Table) : Type 0 where

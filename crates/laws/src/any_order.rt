@@ -1,12 +1,15 @@
 // Any order gives the same. proofs/AnyOrder.antt has the laws over the definitions. Here those of cache sets are promised of what the code returns: three
-// functions work one set out in two ways, and a fourth has the sizes of what sets share.
+// functions work one set out in two ways, and a fourth has the sizes of what useful blocks share with evicting sets.
 
+ghost use Rattle.std.specs.Prelude.{◌≤◌};
 ghost use Rattle.cache.specs.Sets.{◌∪◌};
+ghost use Rattle.cache.specs.Levels.{counts};
 ghost use Rattle.cache.specs.Words.{members};
 ghost use Rattle.laws.specs.CacheSets.{BothGive, SizesOf};
 
 use cache::sets::CacheSet;
 use cache::units::Reloads;
+use cache::useful::Useful;
 
 // A set that was worked out in two ways.
 #[derive(Clone, Copy)]
@@ -15,7 +18,7 @@ pub struct TwoWays {
     pub other: CacheSet,
 }
 
-// Of three sets U, A and B the sizes of U ∩ (A ∪ B), U ∩ A ∩ B, U ∩ A and U ∩ B.
+// Of useful blocks and two evicting sets A and B: how many there are in A ∪ B, in A ∩ B, in A and in B.
 #[derive(Clone, Copy)]
 pub struct Sizes {
     pub either: Reloads,
@@ -56,18 +59,17 @@ pub fn with_itself(a: CacheSet) -> TwoWays
     }
 }
 
-// The sizes of what is shared add up.
-pub fn shared_sizes(u: CacheSet, a: CacheSet, b: CacheSet) -> Sizes
-    ensures { SizesOf (members u) (members a) (members b) result }
+// The sizes of what is shared add up, whatever the useful blocks count.
+pub fn shared_sizes(useful: &Useful, a: CacheSet, b: CacheSet, ways: u64) -> Sizes
+    requires { ways ≤ 8 }
+    ensures { SizesOf (counts ways useful.now) (members a) (members b) result }
 {
-    let either = u.intersection(a.union(b));
-    let first = u.intersection(a);
-    let both = first.intersection(b);
-    let second = u.intersection(b);
+    let union = a.union(b);
+    let intersection = a.intersection(b);
     Sizes {
-        either: either.size(),
-        both: both.size(),
-        first: first.size(),
-        second: second.size(),
+        either: useful.size_in(union, ways),
+        both: useful.size_in(intersection, ways),
+        first: useful.size_in(a, ways),
+        second: useful.size_in(b, ways),
     }
 }

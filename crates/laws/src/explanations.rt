@@ -30,7 +30,7 @@ fn total_of(table: &Table, need: &Need, i: usize, r: u64) -> u64
     ensures { result ≡ sum_of table.now need.now i r }
 {
     let mut row = one_row::charged(table, need.method, i);
-    blocked_row::join(table, need.method, i, need.blocker, &mut row);
+    blocked_row::join(table, need.method, i, &need.blocker, &mut row);
     let mut total = table.task(i).work.0 + need.blocker.lasts.0;
     for j in 0..i {
         total += costs::term(table, j, row[j].count()).work(r);

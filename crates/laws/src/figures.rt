@@ -27,7 +27,7 @@ pub fn charge(table: &Table, method: Single, i: usize, j: usize) -> Charge
     ensures figure { IsChargeFigured table.now method i j result }
 {
     let mut row = one_row::charged(table, method, i);
-    let plain = plain_access(*table.task(i));
-    blocked_row::join(table, method, i, plain, &mut row);
+    let plain = plain_access(table.task(i));
+    blocked_row::join(table, method, i, &plain, &mut row);
     row[j]
 }

@@ -33,7 +33,7 @@ pub fn growth_left(text: &[u8], method: u64) -> Result<u64, Refusal>
 }
 
 // A text, read and then written into a buffer that no accepted text is too long for; or why it is refused.
-pub fn read_then_written(text: &[u8], out: &mut [u8; 9293]) -> Result<usize, Refusal>
+pub fn read_then_written(text: &[u8], out: &mut [u8; 16384]) -> Result<usize, Refusal>
     ensures { ComesBack text.now out.old result out.new }
 {
     crpd::rewrite(text, out)
@@ -43,7 +43,7 @@ pub fn read_then_written(text: &[u8], out: &mut [u8; 9293]) -> Result<usize, Ref
 pub fn written_then_read(table: &Table, again: &mut Table) -> Result<(), Refusal>
     ensures { IsReadAgain table.now again.old result again.new }
 {
-    let mut out = [0u8; 9293];
+    let mut out = [0u8; 16384];
     let len = crpd::write(table, &mut out)?;
     *again = Table::empty();
     again.read(&out[..len])

@@ -13,12 +13,12 @@ use Rattle.table.proofs.Names.{name-short}
 use Rattle.table.specs.declared.accesses.Access.{Access}
 use Rattle.table.specs.Accesses.{added_by}
 use Rattle.table.specs.declared.Table.{Table}
-use Rattle.table.specs.Tables.{at}
+use Rattle.table.specs.Tables.{ways_in, at}
 use Rattle.table.specs.Accepted.{AcceptedTable}
 use Rattle.analysis.specs.declared.costs.Charge.{Charge}
 use Rattle.analysis.specs.declared.costs.Charge.TheVariants.{Victim, NoVictim}
 use Rattle.analysis.specs.Costs.{reloads_in, reloads_with, ucb_of, ecb_of, charge_under}
-use Rattle.analysis.proofs.CostLaws.{with-few}
+use Rattle.analysis.proofs.CostLaws.{under-most}
 use Rattle.analysis.specs.declared.costs.Single.{Single}
 use Rattle.analysis.specs.declared.costs.Single.TheVariants.{None, EcbOnly, UcbOnly, UcbUnion, EcbUnion}
 use Rattle.analysis.specs.declared.Method.{Method}
@@ -97,7 +97,7 @@ module _ (table : Table) (accepted : AcceptedTable table) (i : ℕ) (held : i < 
       )
 
   module _ (a : Access) (blocker : Blocker table i a) (m : Single) (R : ℕ) (soon : R ≤ 250000000) where
-    line-cost : (j : ℕ) → j < i → 9000000 * length (reason_line (name_at table) R (at table j) (charge_under table a m i j)) ≤ 359000000 + activations_in R (at table j)
+    line-cost : (j : ℕ) → j < i → 9000000 * length (reason_line (name_at table) R (at table j) (charge_under table a m i j)) ≤ 368000000 + activations_in R (at table j)
     unfolding reloads_with
     line-cost j l =
         let t = at table j in
@@ -109,8 +109,8 @@ module _ (table : Table) (accepted : AcceptedTable table) (i : ℕ) (held : i < 
           reason-length (name_at table) R t charge,
           named-short j (omega arith),
           digits-cost (activations_in R t) (omega arith),
-          spelled_short 2 (reloads_in charge) (omega (arith, with-few (ucb_of table) (ecb_of table) i j (added_by a j) a.task m)),
-          victim-short (name_at table) j charge (named-short (victim_in j charge) (victim-below (ucb_of table) (ecb_of table) (added_by a j) a.task table.count m i j l held blocker.task)),
+          spelled_short 3 (reloads_in charge) (omega (arith, under-most table a m i j accepted)),
+          victim-short (name_at table) j charge (named-short (victim_in j charge) (victim-below (ways_in table) (ucb_of table) (ecb_of table) (added_by (ways_in table) a j) a.task table.count m i j l held blocker.task)),
         )
 
     abbrev lines : ℕ → List ℕ
@@ -126,7 +126,7 @@ module _ (table : Table) (accepted : AcceptedTable table) (i : ℕ) (held : i < 
     activated-next : (own n : ℕ) → activated own (n + 1) ≡ activated own n + activations_in R (at table n)
     activated-next own n = sym (fold_next ◌+◌ own (λ j. activations_in R (at table j)) 0 n _ _ zero-le refl refl)
 
-    lines-cost : (own n : ℕ) → n ≤ i → 9000000 * length (lines n) + own ≤ 359000000 * n + activated own n
+    lines-cost : (own n : ℕ) → n ≤ i → 9000000 * length (lines n) + own ≤ 368000000 * n + activated own n
     unfolding run
     lines-cost own zero h = omega (arith, fold-none ◌+◌ own (λ j. activations_in R (at table j)) 0)
     lines-cost own (suc n) h =
@@ -141,8 +141,8 @@ module _ (table : Table) (accepted : AcceptedTable table) (i : ℕ) (held : i < 
         work : (j : ℕ) → j < i → 1 ≤ (at table j).work.0 + table.brt.0 * reloads_in (charge_under table a m i j)
         work j l = omega (arith, (accepted.tasks j (omega arith)).work)
 
-  -- no explanation is longer than 1,317 bytes
-  pub explanation-short : (m : Method) → length (explanation_of table m i) ≤ 1317
+  -- no explanation is longer than 1,348 bytes
+  pub explanation-short : (m : Method) → length (explanation_of table m i) ≤ 1348
   unfolding explanation_of
   explanation-short m = go (need_of table m i).time refl
     where
@@ -152,7 +152,7 @@ module _ (table : Table) (accepted : AcceptedTable table) (i : ℕ) (held : i < 
       of-need : Needed table i need
       of-need = needed table accepted i held m
 
-      go : (r : Response) → need.time ≡ r → length (need_line (at table i) need ++ reason_lines table need.blocker need.method i r) ≤ 1317
+      go : (r : Response) → need.time ≡ r → length (need_line (at table i) need ++ reason_lines table need.blocker need.method i r) ≤ 1348
       go (Within R) e =
           let own = (at table i).work.0 + need.blocker.lasts.0 in
           let soon : R.0 ≤ 250000000 = rw e at of-need.ranged.time in

@@ -1,7 +1,8 @@
 -- The lines of an explanation, as the writes of their parts give them, and how long the parts are.
 use Rattle.std.proofs.Common.{◌≡◌, refl, ap, ap₂, ◌∙◌, ℕ, ◌+◌, ◌≤◌, ◌<◌, arith, length}
 use Rattle.std.specs.Prelude.{List, [], ◌∷◌}
-use Rattle.cache.specs.Sets.{Set, ◌∩◌, size}
+use Rattle.cache.specs.Sets.{Set}
+use Rattle.cache.specs.Counts.{Counts, ◌on◌, total}
 use Rattle.search.specs.declared.demand.Response.{Response}
 use Rattle.search.specs.declared.demand.Response.TheVariants.{Within, Unschedulable}
 use Rattle.table.specs.declared.tasks.Task.{Task}
@@ -51,14 +52,15 @@ module _ (table : Table) (R j none : ℕ) (task hit : Task) (charge at_j : Charg
 victim-of-larger : (n : ℕ) (a b : Hit) → a.victim < n → b.victim < n → (larger_of a b).victim < n
 victim-of-larger n a b p q = larger-by (λ h. h.victim < n) a b (λ _. q) (λ _. p)
 
-pub victim-below : (U E : ℕ → Set) (X : Set) (k n : ℕ) (m : Single) (i j : ℕ) → j < i → i < n → k < n → victim_in j (charge_with U E X k m i j) < n
-victim-below U E X k n None i j h l b = omega arith
-victim-below U E X k n EcbOnly i j h l b = omega arith
-victim-below U E X k n UcbOnly i j h l b =
-    victim-of-larger n (largest_at (λ k. size (U k)) (aff i j)) (hit (size X) k) (omega (arith, (first-largest (λ k. size (U k)) (j + 1) (i + 1) (omega arith)).below)) b
-victim-below U E X k n UcbUnion i j h l b = omega arith
-victim-below U E X k n EcbUnion i j h l b =
-    victim-of-larger n (largest_at (λ k. size (U k ∩ union_of E (hp (j + 1)))) (aff i j)) (hit (size (X ∩ union_of E (hp (j + 1)))) k) (omega (arith, (first-largest (λ k. size (U k ∩ union_of E (hp (j + 1)))) (j + 1) (i + 1) (omega arith)).below)) b
+pub victim-below : (ways : ℕ) (U : ℕ → Counts) (E : ℕ → Set) (X : Counts) (k n : ℕ) (m : Single) (i j : ℕ) → j < i → i < n → k < n
+    → victim_in j (charge_with ways U E X k m i j) < n
+victim-below ways U E X k n None i j h l b = omega arith
+victim-below ways U E X k n EcbOnly i j h l b = omega arith
+victim-below ways U E X k n UcbOnly i j h l b =
+    victim-of-larger n (largest_at (λ k. total (U k)) (aff i j)) (hit (total X) k) (omega (arith, (first-largest (λ k. total (U k)) (j + 1) (i + 1) (omega arith)).below)) b
+victim-below ways U E X k n UcbUnion i j h l b = omega arith
+victim-below ways U E X k n EcbUnion i j h l b =
+    victim-of-larger n (largest_at (λ k. total (U k on union_of E (hp (j + 1)))) (aff i j)) (hit (total (X on union_of E (hp (j + 1)))) k) (omega (arith, (first-largest (λ k. total (U k on union_of E (hp (j + 1)))) (j + 1) (i + 1) (omega arith)).below)) b
 
 -- a task's times are in range
 pub timed : {table : Table} → AcceptedTable table → (k : ℕ) → k < table.count → Timed (at table k)

@@ -2,7 +2,7 @@
 -- the response stands in `need`.
 use Rattle.std.proofs.Common.{ℕ, ◌+◌, ◌*◌, ◌≤◌, ◌<◌, arith, ◌≡◌, sym, subst, ◌∙◌}
 use Rattle.cache.specs.declared.units.Ticks.{Ticks}
-use Rattle.cache.specs.Sets.{Set, ◌∩◌, size}
+use Rattle.cache.specs.Counts.{Counts, ◌on◌, total}
 use Rattle.search.specs.declared.demand.Response.TheVariants.{Within}
 use Rattle.search.specs.Positions.{hp, fold_by}
 use Rattle.search.specs.Demand.{demand_of}
@@ -10,7 +10,7 @@ use Rattle.search.proofs.LeastLaws.{answer-reached}
 use Rattle.table.specs.declared.accesses.Access.{Access}
 use Rattle.table.specs.Accesses.{added_by}
 use Rattle.table.specs.declared.Table.{Table}
-use Rattle.table.specs.Tables.{at}
+use Rattle.table.specs.Tables.{ways_in, at}
 use Rattle.table.specs.Accepted.{AcceptedTable}
 use Rattle.analysis.specs.declared.costs.Hit.{Hit}
 use Rattle.analysis.specs.declared.costs.Single.{Single}
@@ -39,22 +39,22 @@ explanation-adds-up table accepted i held m R e =
 
 -- ---- the victim
 
--- what of these sets has to be reloaded after an activation of j: under UCB-Only all of them, under ECB-Union what of them is evicted by j or above
-abbrev pub lost_of : Table → Single → ℕ → Set → ℕ
+-- how many of these useful blocks have to be reloaded after an activation of j: under UCB-Only all of them, under ECB-Union what of them is evicted by j or above
+abbrev pub lost_of : Table → Single → ℕ → Counts → ℕ
 lost_of table None j useful = 0
 lost_of table EcbOnly j useful = 0
-lost_of table UcbOnly j useful = size useful
+lost_of table UcbOnly j useful = total useful
 lost_of table UcbUnion j useful = 0
-lost_of table EcbUnion j useful = size (useful ∩ union_of (ecb_of table) (hp (j + 1)))
+lost_of table EcbUnion j useful = total (useful on union_of (ecb_of table) (hp (j + 1)))
 
 -- who is hit while an access blocks: the task of aff(i, j) that has most to reload, and the first of them; or the access's task, where the access has
 -- more to reload than each of them
 pub data Hits (table : Table) (a : Access) (m : Single) (i j : ℕ) : Hit → Type 0 where
-  of-task : {h : Hit} → FirstLargest (λ k. lost_of table m j (ucb_of table k)) (j + 1) (i + 1) h → lost_of table m j (added_by a j) ≤ h.reloads.0 → Hits table a m i j h
-  of-access : ((k : ℕ) → j < k → k ≤ i → lost_of table m j (ucb_of table k) < lost_of table m j (added_by a j)) → Hits table a m i j (hit (lost_of table m j (added_by a j)) a.task)
+  of-task : {h : Hit} → FirstLargest (λ k. lost_of table m j (ucb_of table k)) (j + 1) (i + 1) h → lost_of table m j (added_by (ways_in table) a j) ≤ h.reloads.0 → Hits table a m i j h
+  of-access : ((k : ℕ) → j < k → k ≤ i → lost_of table m j (ucb_of table k) < lost_of table m j (added_by (ways_in table) a j)) → Hits table a m i j (hit (lost_of table m j (added_by (ways_in table) a j)) a.task)
 
 module _ (table : Table) (a : Access) (i j : ℕ) (above : j < i) where
-  larger-hits : (m : Single) → Hits table a m i j (larger_of (largest_at (λ k. lost_of table m j (ucb_of table k)) (aff i j)) (hit (lost_of table m j (added_by a j)) a.task))
+  larger-hits : (m : Single) → Hits table a m i j (larger_of (largest_at (λ k. lost_of table m j (ucb_of table k)) (aff i j)) (hit (lost_of table m j (added_by (ways_in table) a j)) a.task))
   larger-hits m =
       let first = first-largest (λ k. lost_of table m j (ucb_of table k)) (j + 1) (i + 1) (omega arith) in
       larger-by (Hits table a m i j) _ _ (λ less. of-access (λ k l b. omega (arith, first.most k (omega arith) (omega arith)))) (λ least. of-task first least)

@@ -14,10 +14,10 @@ use Rattle.table.specs.declared.refusals.Refusal.{Refusal}
 use Rattle.writing.specs.Delivery.{Delivered}
 use Rattle.report.specs.Explanation.{explanation_of}
 
--- the explanation is delivered, and it is never longer than 1,317 bytes
+-- the explanation is delivered, and it is never longer than 1,348 bytes
 pub record Explained (table : Table) (m : Method) (i : ℕ) (before : List ℕ) (written : Result ℕ Refusal) (after : List ℕ) : Type 0 where
   pub delivered : Delivered (explanation_of table m i) before written after
-  pub short : length (explanation_of table m i) ≤ 1317
+  pub short : length (explanation_of table m i) ≤ 1348
 
 -- a need of a task: what is needed is in range, and so is for how long the task is blocked
 pub record NeedInRange (need : Need) : Type 0 where

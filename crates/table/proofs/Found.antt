@@ -37,6 +37,9 @@ module _ (c : ℕ) (s : List ℕ) where
   pub before-found : (e : ℕ) → position (λ b. eqb b c) s ≡ Some e → take e s ≡ up_to c s
   before-found e h = rw (← (found _ s e h).0, ← up-to-length c s) (up-to-part c s)
 
+  pub end-found : (e : ℕ) → position (λ b. eqb b c) s ≡ Some e → e ≡ length (up_to c s)
+  end-found e h = sym (found _ s e h).0 ∙ sym (up-to-length c s)
+
   pub after-found : (e : ℕ) → position (λ b. eqb b c) s ≡ Some e → take (length s - (e + 1)) (drop (e + 1) s) ≡ after c s
   after-found e h = part-beyond c s e (sym (found _ s e h).0 ∙ sym (up-to-length c s))
 

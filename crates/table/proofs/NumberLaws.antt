@@ -1,7 +1,7 @@
 -- The number of a refusal is at most 25.
 use Rattle.std.proofs.Common.{ℕ, ◌≤◌, arith}
 use Rattle.table.specs.declared.refusals.Reason.{Reason}
-use Rattle.table.specs.declared.refusals.Reason.TheVariants.{TooLong, NotEnded, Shape, Name, Number, Range, Marks, Order, KnownName, TooManyTasks, NoTask, Method, Position, ShortBuffer, OtherTask, TooManyAccesses, Blocking, NoText}
+use Rattle.table.specs.declared.refusals.Reason.TheVariants.{TooLong, NotEnded, Shape, Name, Number, Range, Marks, Order, KnownName, TooManyTasks, NoTask, Method, Position, ShortBuffer, OtherTask, TooManyAccesses, Blocking, TooManyBlocks, NoText}
 use Rattle.table.specs.Numbers.{reason_number}
 
 pub number-small : (reason : Reason) → reason_number reason ≤ 25
@@ -22,4 +22,5 @@ number-small ShortBuffer = omega arith
 number-small OtherTask = omega arith
 number-small TooManyAccesses = omega arith
 number-small Blocking = omega arith
+number-small TooManyBlocks = omega arith
 number-small NoText = omega arith

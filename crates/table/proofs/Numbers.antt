@@ -2,7 +2,7 @@
 use Rattle.std.proofs.Common.{ℕ, ◌+◌, ◌-◌, ◌*◌, ◌<◌, ◌≤◌, ◌^◌, ◌≡◌, true, false, leb-true, List, pow-suc, add-one, arith, leb, length, get_or, drop, drop_of_length-le}
 use Rattle.std.proofs.Math.Bool.{and-eq-true_iff}
 use Rattle.std.specs.Prelude.{Some, None}
-use Rattle.table.specs.Bytes.{is_digit}
+use Rattle.cache.specs.UsefulField.{is_digit}
 use Rattle.table.specs.Fields.{read_digits}
 use Rattle.table.proofs.Left.{left-cons}
 

@@ -4,7 +4,7 @@ use Rattle.std.proofs.Math.Bool.{and-eq-true_iff}
 use Rattle.std.proofs.Math.Nat.{pow-le-pow_right}
 use Rattle.std.proofs.lemmas.Bool.{eqb-false, not-true}
 use Rattle.std.specs.Prelude.{Option, Some, None}
-use Rattle.table.specs.Bytes.{is_digit}
+use Rattle.cache.specs.UsefulField.{is_digit}
 use Rattle.table.specs.Fields.{read_digits, read_number}
 use Rattle.table.proofs.Numbers.{digit-bounds}
 

@@ -50,7 +50,7 @@ ended-told table most h =
 counts-on : (table : Table) (l : List ℕ) → (with_line table l).count ≤ table.count + 1
 counts-on table l = go (is_task_line l)
   where
-    go : (t : Bool) → (cond t (with_task table (task_said table.sets l)) (with_access table (access_said table.sets (tasks_of table) l))).count ≤ table.count + 1
+    go : (t : Bool) → (cond t (with_task table (task_said table.form table.sets l)) (with_access table (access_said table.form table.sets (tasks_of table) l))).count ≤ table.count + 1
     go true = omega arith
     go false = omega arith
 

@@ -1,4 +1,4 @@
--- The number of a text's refusal is at most 17: the reasons beyond are those of calls.
+-- The number of a text's refusal is at most 18: the reasons beyond are those of calls.
 use Rattle.std.proofs.Common.{ℕ, ◌+◌, ◌≤◌, Bool, true, false, ◌&&◌, cond, List, [], ◌∷◌, length, arith, Result, Ok, Err}
 use Rattle.std.specs.Prelude.{nat_lt, ◌==◌}
 use Rattle.table.specs.Cut.{lines}
@@ -6,6 +6,7 @@ use Rattle.table.specs.declared.refusals.Reason.TheVariants.{Shape, NoTask, Bloc
 use Rattle.table.specs.declared.refusals.Refusal.{Refusal}
 use Rattle.table.specs.Numbers.{reason_number}
 use Rattle.table.specs.Rows.{Conditions, unless_fault}
+use Rattle.cache.specs.declared.useful.Form.{Form}
 use Rattle.table.specs.declared.tasks.Task.{Task}
 use Rattle.table.specs.HeadLine.{head_rows, head_said}
 use Rattle.table.specs.TaskLine.{task_rows}
@@ -17,12 +18,12 @@ use Rattle.table.specs.Reading.{told, then_read, text_rows, is_task_line, is_acc
 -- a refusal, if it is one, has such a number
 abbrev pub NumberedLow : {X : Type 0} → Result X Refusal → Type 0
 NumberedLow (Ok x) = Unit {0}
-NumberedLow (Err r) = reason_number r.reason ≤ 17
+NumberedLow (Err r) = reason_number r.reason ≤ 18
 
 -- so have the reasons of all conditions
 abbrev LowRows : Conditions → Type 0
 LowRows [] = Unit {0}
-LowRows (r ∷ rows) = (reason_number r.1 ≤ 17) × LowRows rows
+LowRows (r ∷ rows) = (reason_number r.1 ≤ 18) × LowRows rows
 
 -- then what is told of them has
 rows-low : {X Y : Type 0} (line : ℕ) (rows : Conditions) (x : X) (next : X → Result Y Refusal) → LowRows rows → NumberedLow (next x)
@@ -35,20 +36,21 @@ rows-low line (r ∷ rows) x next low p = go r.0 (rows-low line rows x next low.
     go true rest = low.0
     go false rest = rest
 
-task-low : (sets : ℕ) (above : List Task) (l : List ℕ) → LowRows (task_rows sets above l)
+task-low : (form : Form) (sets : ℕ) (above : List Task) (l : List ℕ) → LowRows (task_rows form sets above l)
 unfolding task_rows
-task-low sets above l = (omega arith, (omega arith, (omega arith, (omega arith, (omega arith, (omega arith, (omega arith, tt)))))))
+task-low form sets above l =
+    (omega arith, (omega arith, (omega arith, (omega arith, (omega arith, (omega arith, (omega arith, (omega arith, tt))))))))
 
-access-low : (sets : ℕ) (tasks : List Task) (l : List ℕ) → LowRows (access_rows sets tasks l)
+access-low : (form : Form) (sets : ℕ) (tasks : List Task) (l : List ℕ) → LowRows (access_rows form sets tasks l)
 unfolding access_rows
-access-low sets tasks l = (omega arith, (omega arith, (omega arith, (omega arith, (omega arith, (omega arith, tt))))))
+access-low form sets tasks l = (omega arith, (omega arith, (omega arith, (omega arith, (omega arith, (omega arith, (omega arith, tt)))))))
 
 line-low : (table : Table) (l : List ℕ) → LowRows (line_rows table l)
 line-low table l = go (is_task_line l) (is_access_line l)
   where
     go : (s t : Bool) → LowRows (cond s (task_line_rows table l) (cond t (access_line_rows table l) ((true, Shape) ∷ [])))
-    go true t = (omega arith, (omega arith, task-low table.sets (tasks_of table) l))
-    go false true = (omega arith, access-low table.sets (tasks_of table) l)
+    go true t = (omega arith, (omega arith, task-low table.form table.sets (tasks_of table) l))
+    go false true = (omega arith, access-low table.form table.sets (tasks_of table) l)
     go false false = (omega arith, tt)
 
 ended-low : (table : Table) → NumberedLow (then_read (ended table) (λ _. Ok table))

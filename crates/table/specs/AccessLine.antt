@@ -3,12 +3,13 @@ use Rattle.std.specs.Prelude.{ℕ, List, [], ◌∷◌, ◌≡◌, true, not, �
 use Rattle.std.specs.List.{position_or_len}
 use Rattle.table.specs.Cut.{field}
 use Rattle.table.specs.Fields.{is_number, number, has_shape, is_name, is_within}
-use Rattle.cache.specs.Field.{read_set}
-use Rattle.table.specs.declared.refusals.Reason.TheVariants.{Shape, Name, Number, Range, Marks, OtherTask}
+use Rattle.cache.specs.declared.useful.Form.{Form}
+use Rattle.cache.specs.UsefulField.{read_useful, within_ways}
+use Rattle.table.specs.declared.refusals.Reason.TheVariants.{Shape, Name, Number, Range, Marks, TooManyBlocks, OtherTask}
 use Rattle.table.specs.Rows.{Conditions}
 use Rattle.table.specs.declared.tasks.Task.{Task}
 use Rattle.table.specs.Names.{has_name}
-use Rattle.table.specs.Tasks.{pack_name, no_sets}
+use Rattle.table.specs.Tasks.{pack_name, no_blocks}
 use Rattle.table.specs.declared.accesses.Access.{Access}
 use Rattle.table.specs.declared.accesses.line.AccessFields.{AccessFields}
 
@@ -25,23 +26,24 @@ abbrev pub position_named : List Task → List ℕ → ℕ
 position_named tasks name = position_or_len (has_name (pack_name name)) tasks
 
 -- what an access line says below these tasks: after `A` the names of the task and of its ceiling, the length and the UCB
-unfoldable pub access_said : ℕ → List Task → List ℕ → Access
-access_said sets tasks line = record {
+unfoldable pub access_said : Form → ℕ → List Task → List ℕ → Access
+access_said form sets tasks line = record {
   task = position_named tasks (field 1 line);
   ceiling = position_named tasks (field 2 line);
   lasts = record { 0 = number (field 3 line) };
-  ucb = unwrap_or (read_set sets (field 4 line)) no_sets;
+  ucb = unwrap_or (read_useful form sets (field 4 line)) no_blocks;
 }
 
 -- an access line below these tasks: both of its names are those of tasks, and the ceiling is the task or above it
-unfoldable pub access_rows : ℕ → List Task → List ℕ → Conditions
-access_rows sets tasks line =
+unfoldable pub access_rows : Form → ℕ → List Task → List ℕ → Conditions
+access_rows form sets tasks line =
     let task = position_named tasks (field 1 line) in
     let ceiling = position_named tasks (field 2 line) in
     (not (has_shape 65 5 line), Shape)
     ∷ (not (is_name (field 1 line) && is_name (field 2 line)), Name)
     ∷ (not (is_number (field 3 line)), Number)
     ∷ (not (is_within 1 250000000 (number (field 3 line))), Range)
-    ∷ (not (is_some (read_set sets (field 4 line))), Marks)
+    ∷ (not (is_some (read_useful form sets (field 4 line))), Marks)
+    ∷ (not (within_ways form (field 4 line)), TooManyBlocks)
     ∷ (not (nat_lt task (length tasks) && nat_le ceiling task), OtherTask)
     ∷ []

@@ -1,9 +1,9 @@
 -- An access to a shared device: whom it may block, and which of its marks an activation can evict.
 use Rattle.std.specs.Prelude.{ℕ, Bool, ◌&&◌, List, [], ◌∷◌, filter, if◌then◌else◌, nat_le, nat_lt}
-use Rattle.cache.specs.Sets.{Set, ∅}
-use Rattle.cache.specs.Words.{members}
+use Rattle.cache.specs.Counts.{Counts, nothing}
+use Rattle.cache.specs.Levels.{counts}
 use Rattle.table.specs.declared.tasks.Task.{Task}
-use Rattle.table.specs.Tasks.{no_sets}
+use Rattle.table.specs.Tasks.{no_blocks}
 use Rattle.table.specs.declared.accesses.Access.{Access}
 
 -- an access may block the task at i where its own task is below i, and its ceiling is i or above
@@ -19,14 +19,18 @@ abbrev pub or_else : Access → List Access → List Access
 or_else a [] = a ∷ []
 or_else a (b ∷ rest) = b ∷ rest
 
--- the set that it adds to aff(i, j): its UCB where its ceiling is below j, since only then can j pre-empt it, and else nothing
-abbrev pub added_by : Access → ℕ → Set
-added_by a j = if nat_lt j a.ceiling then members a.ucb else ∅
+-- what it adds to aff(i, j), where there are so many ways: its UCB where its ceiling is below j, since only then can j pre-empt it, and else nothing
+abbrev pub added_by : ℕ → Access → ℕ → Counts
+added_by ways a j = if nat_lt j a.ceiling then counts ways a.ucb else nothing
 
 -- B of a task as an access: it takes as long, and nothing of it can be evicted
 abbrev pub plain_access : Task → Access
-plain_access t = record { task = 0; ceiling = 0; lasts = t.blocking; ucb = no_sets }
+plain_access t = record { task = 0; ceiling = 0; lasts = t.blocking; ucb = no_blocks }
+
+-- what stands past the end of a table's accesses: no statement rests on it
+abbrev pub blank_access : Access
+blank_access = record { task = 0; ceiling = 0; lasts = record { 0 = 0 }; ucb = record { levels = [] } }
 
 -- what stands in a place of a table that has no access
 abbrev pub empty_access : Access
-empty_access = record { task = 0; ceiling = 0; lasts = record { 0 = 0 }; ucb = no_sets }
+empty_access = record { task = 0; ceiling = 0; lasts = record { 0 = 0 }; ucb = no_blocks }

@@ -3,7 +3,8 @@ use Rattle.std.specs.Prelude.{ℕ, ◌+◌, ◌-◌, ◌*◌, List, [], ◌∷�
 use Rattle.table.specs.Cut.{field, field_count}
 use Rattle.std.specs.List.{list_all}
 use Rattle.std.specs.Str.{bytes_eq}
-use Rattle.table.specs.Bytes.{is_digit, is_name_byte}
+use Rattle.cache.specs.UsefulField.{is_digit}
+use Rattle.table.specs.Bytes.{is_name_byte}
 
 -- decimal digits, most significant first, after digits that say v
 unfoldable pub read_digits : ℕ → List ℕ → Option ℕ

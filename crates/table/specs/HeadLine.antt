@@ -1,29 +1,47 @@
 -- What line 1 says, field by field, and its refusals.
-use Rattle.std.specs.Prelude.{ℕ, ◌%◌, List, [], ◌∷◌, not, ◌&&◌, Bool, ◌≡◌, true, ◌==◌}
-use Rattle.table.specs.Cut.{field}
-use Rattle.table.specs.Fields.{is_number, number, has_shape, is_within}
+use Rattle.std.specs.Prelude.{ℕ, ◌%◌, List, [], ◌∷◌, not, ◌&&◌, ◌||◌, Bool, ◌≡◌, true, ◌==◌, Option, Some, None, is_some, unwrap_or, option_map, slice_get}
+use Rattle.cache.specs.declared.useful.Form.{Form}
+use Rattle.cache.specs.declared.useful.Form.TheVariants.{Hex, Digits}
+use Rattle.cache.specs.UsefulField.{ways_of}
+use Rattle.table.specs.Cut.{fields, field}
+use Rattle.table.specs.Fields.{is_number, number, read_number, has_shape, is_within}
 use Rattle.table.specs.declared.refusals.Reason.TheVariants.{Shape, Number, Range}
 use Rattle.table.specs.Rows.{Conditions}
 use Rattle.table.specs.declared.tasks.head.Head.{Head}
 use Rattle.table.specs.declared.tasks.head.HeadFields.{HeadFields}
 
--- after `K` the cache sets and the ticks that a block reload takes
+-- three fields, of which `K` is the first, or a fourth that names the ways
+unfoldable pub is_head : List ℕ → Bool
+is_head line = has_shape 75 3 line || has_shape 75 4 line
+
+-- the fourth field, if there is one
+abbrev pub ways_field : List ℕ → Option (List ℕ)
+ways_field line = slice_get (fields line) 3
+
+-- useful blocks are written as hex digits of marks, with 1 way, or where a field names the ways, as digits that count them
+unfoldable pub read_form : Option (List ℕ) → Option Form
+read_form None = Some Hex
+read_form (Some f) = option_map Digits (read_number f)
+
+-- after `K` the cache sets and the ticks that a block reload takes, and how useful blocks are written
 abbrev pub head_said : List ℕ → Head
-head_said line = record { sets = number (field 1 line); brt = record { 0 = number (field 2 line) } }
+head_said line = record { sets = number (field 1 line); brt = record { 0 = number (field 2 line) }; form = unwrap_or (read_form (ways_field line)) Hex }
 
 -- the ranges of line 1, and that the sets come in fours
 unfoldable pub head_in_range : Head → Bool
-head_in_range head = is_within 4 256 head.sets && (head.sets % 4) == 0 && is_within 0 100000 head.brt.0
+head_in_range head =
+    is_within 4 256 head.sets && (head.sets % 4) == 0 && is_within 0 100000 head.brt.0 && is_within 1 8 (ways_of head.form)
 
 abbrev pub head_rows : List ℕ → Conditions
 head_rows line =
-    (not (has_shape 75 3 line), Shape)
-    ∷ (not (is_number (field 1 line) && is_number (field 2 line)), Number)
+    (not (is_head line), Shape)
+    ∷ (not (is_number (field 1 line) && is_number (field 2 line) && is_some (read_form (ways_field line))), Number)
     ∷ (not (head_in_range (head_said line)), Range)
     ∷ []
 
--- these are the fields of line 1, which has three, and `K` the first
+-- these are the fields of line 1, `K` the first
 pub record AreHeadFields (line : List ℕ) (f : HeadFields) : Type 0 where
-  pub shaped : has_shape 75 3 line ≡ true
+  pub shaped : is_head line ≡ true
   pub sets : f.sets.now ≡ field 1 line
   pub brt : f.brt.now ≡ field 2 line
+  pub ways : option_map (λ w. w.now) f.ways ≡ ways_field line

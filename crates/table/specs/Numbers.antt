@@ -2,7 +2,7 @@
 use Rattle.std.specs.Prelude.{ℕ}
 use Rattle.table.specs.declared.refusals.Reason.{Reason}
 use Rattle.table.specs.declared.refusals.Refusal.{Refusal}
-use Rattle.table.specs.declared.refusals.Reason.TheVariants.{TooLong, NotEnded, Shape, Name, Number, Range, Marks, Order, KnownName, TooManyTasks, NoTask, Method, Position, ShortBuffer, OtherTask, TooManyAccesses, Blocking, NoText}
+use Rattle.table.specs.declared.refusals.Reason.TheVariants.{TooLong, NotEnded, Shape, Name, Number, Range, Marks, Order, KnownName, TooManyTasks, NoTask, Method, Position, ShortBuffer, OtherTask, TooManyAccesses, Blocking, TooManyBlocks, NoText}
 
 abbrev pub reason_number : Reason → ℕ
 reason_number TooLong = 1
@@ -22,6 +22,7 @@ reason_number ShortBuffer = 14
 reason_number OtherTask = 15
 reason_number TooManyAccesses = 16
 reason_number Blocking = 17
+reason_number TooManyBlocks = 18
 reason_number NoText = 25
 
 abbrev pub untold : Reason → Refusal

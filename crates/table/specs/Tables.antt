@@ -2,10 +2,16 @@
 use Rattle.std.specs.Prelude.{ℕ, ◌+◌, List, take, set, replicate, slice_index_or}
 use Rattle.table.specs.declared.tasks.Task.{Task}
 use Rattle.table.specs.declared.tasks.head.Head.{Head}
+use Rattle.cache.specs.declared.useful.Form.TheVariants.{Hex}
+use Rattle.cache.specs.UsefulField.{ways_of}
 use Rattle.table.specs.Tasks.{blank, empty_task}
 use Rattle.table.specs.declared.accesses.Access.{Access}
-use Rattle.table.specs.Accesses.{empty_access}
+use Rattle.table.specs.Accesses.{blank_access, empty_access}
 use Rattle.table.specs.declared.Table.{Table}
+
+-- how many ways a cache set of it has
+abbrev pub ways_in : Table → ℕ
+ways_in table = ways_of table.form
 
 -- the tasks that are there, the highest priority first
 abbrev pub tasks_of : Table → List Task
@@ -21,13 +27,14 @@ accesses_of table = take table.access_count table.accesses
 
 -- the access of a line, counted from 0
 unfoldable pub access_at : Table → ℕ → Access
-access_at table n = slice_index_or (accesses_of table) n empty_access
+access_at table n = slice_index_or (accesses_of table) n blank_access
 
 -- a table of no task yet, and of no access: what a place holds that has none is given too
 abbrev pub new_table : Head → Table
 new_table head = record {
   sets = head.sets;
   brt = head.brt;
+  form = head.form;
   count = 0;
   tasks = replicate 32 empty_task;
   access_count = 0;
@@ -36,13 +43,14 @@ new_table head = record {
 
 -- the table into which a text is read
 abbrev pub empty_table : Table
-empty_table = new_table (record { sets = 0; brt = record { 0 = 0 } })
+empty_table = new_table (record { sets = 0; brt = record { 0 = 0 }; form = Hex })
 
 -- the table with a task more, below the others
 abbrev pub with_task : Table → Task → Table
 with_task table t = record {
   sets = table.sets;
   brt = table.brt;
+  form = table.form;
   count = table.count + 1;
   tasks = set table.tasks table.count t;
   access_count = table.access_count;
@@ -54,6 +62,7 @@ abbrev pub with_access : Table → Access → Table
 with_access table a = record {
   sets = table.sets;
   brt = table.brt;
+  form = table.form;
   count = table.count;
   tasks = table.tasks;
   access_count = table.access_count + 1;

@@ -2,14 +2,16 @@
 use Rattle.std.specs.Prelude.{ℕ, List, [], ◌∷◌, Bool, ◌≡◌, true, not, ◌&&◌, Option, Some, None, is_some, unwrap_or, if◌then◌else◌, nat_le}
 use Rattle.table.specs.Cut.{field}
 use Rattle.table.specs.Fields.{is_number, number, has_shape, is_name, is_within}
+use Rattle.cache.specs.declared.useful.Form.{Form}
 use Rattle.cache.specs.Field.{read_set}
-use Rattle.table.specs.declared.refusals.Reason.TheVariants.{Shape, Name, Number, Range, Marks, Order, KnownName}
+use Rattle.cache.specs.UsefulField.{read_useful, within_ways}
+use Rattle.table.specs.declared.refusals.Reason.TheVariants.{Shape, Name, Number, Range, Marks, TooManyBlocks, Order, KnownName}
 use Rattle.table.specs.Rows.{Conditions}
 use Rattle.table.specs.declared.tasks.Task.{Task}
 use Rattle.table.specs.declared.tasks.line.TaskFields.{TaskFields}
 use Rattle.table.specs.declared.tasks.line.Times.{Times}
 use Rattle.table.specs.Names.{knows}
-use Rattle.table.specs.Tasks.{pack_name, no_sets}
+use Rattle.table.specs.Tasks.{pack_name, no_sets, no_blocks}
 
 -- these are the fields of a task line, which has nine, and `T` the first
 pub record AreTaskFields (line : List ℕ) (f : TaskFields) : Type 0 where
@@ -58,9 +60,9 @@ times_in_range t =
 unfoldable pub times_in_order : Times → Bool
 times_in_order t = nat_le t.jitter.0 t.deadline.0 && nat_le t.deadline.0 t.period.0
 
--- what a task line says: after `T` the name, then the times, and the two sets (the empty one where a field is no set)
-unfoldable pub task_said : ℕ → List ℕ → Task
-task_said sets line =
+-- what a task line says: after `T` the name, then the times, the useful blocks and the evicting sets (none where a field says none)
+unfoldable pub task_said : Form → ℕ → List ℕ → Task
+task_said form sets line =
     let times = times_said (field 2 line) (field 3 line) (field 4 line) (field 5 line) (field 6 line) in record {
       name = pack_name (field 1 line);
       work = times.work;
@@ -68,19 +70,20 @@ task_said sets line =
       deadline = times.deadline;
       jitter = times.jitter;
       blocking = times.blocking;
-      ucb = unwrap_or (read_set sets (field 7 line)) no_sets;
+      ucb = unwrap_or (read_useful form sets (field 7 line)) no_blocks;
       ecb = unwrap_or (read_set sets (field 8 line)) no_sets;
     }
 
 -- a task line below these tasks: each condition is looked for in every field before the next one is
-unfoldable pub task_rows : ℕ → List Task → List ℕ → Conditions
-task_rows sets above line =
+unfoldable pub task_rows : Form → ℕ → List Task → List ℕ → Conditions
+task_rows form sets above line =
     let times = times_said (field 2 line) (field 3 line) (field 4 line) (field 5 line) (field 6 line) in
     (not (has_shape 84 9 line), Shape)
     ∷ (not (is_name (field 1 line)), Name)
     ∷ (not (are_numbers (field 2 line) (field 3 line) (field 4 line) (field 5 line) (field 6 line)), Number)
     ∷ (not (times_in_range times), Range)
-    ∷ (not (is_some (read_set sets (field 7 line)) && is_some (read_set sets (field 8 line))), Marks)
+    ∷ (not (is_some (read_useful form sets (field 7 line)) && is_some (read_set sets (field 8 line))), Marks)
+    ∷ (not (within_ways form (field 7 line)), TooManyBlocks)
     ∷ (not (times_in_order times), Order)
     ∷ (knows (pack_name (field 1 line)) above, KnownName)
     ∷ []

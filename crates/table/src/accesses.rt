@@ -6,8 +6,8 @@ ghost use Rattle.std.specs.Prelude.{◌≡◌};
 ghost use Rattle.table.specs.Accesses.{may_block, plain_access};
 
 use crate::tasks::Task;
-use cache::sets::CacheSet;
 use cache::units::Ticks;
+use cache::useful::Useful;
 
 // An access: the positions of the task that makes it and of its ceiling, how long it lasts, and its UCB.
 #[derive(Clone, Copy)]
@@ -15,27 +15,32 @@ pub struct Access {
     pub task: usize,
     pub ceiling: usize,
     pub lasts: Ticks,
-    pub ucb: CacheSet,
+    pub ucb: Useful,
 }
 
 impl Access {
+    // What stands in a place without an access.
+    pub const NONE: Access = Access {
+        task: 0,
+        ceiling: 0,
+        lasts: Ticks(0),
+        ucb: Useful::NONE,
+    };
+
     // Whether the task at i may have to wait for it: its own task is below i, and its ceiling is i or above.
-    pub fn may_block(self, i: usize) -> bool
-        ensures { result ≡ may_block i self }
+    pub fn may_block(&self, i: usize) -> bool
+        ensures { result ≡ may_block i self.now }
     {
         (i < self.task) & (self.ceiling <= i)
     }
 }
 
 // B of a task as an access.
-pub fn plain_access(task: Task) -> Access
-    ensures { result ≡ plain_access task }
+pub fn plain_access(task: &Task) -> Access
+    ensures { result ≡ plain_access task.now }
 {
-    let lasts = task.blocking;
     Access {
-        task: 0,
-        ceiling: 0,
-        lasts,
-        ucb: CacheSet::EMPTY,
+        lasts: task.blocking,
+        ..Access::NONE
     }
 }

@@ -23,6 +23,7 @@ pub enum Reason {
     OtherTask = 15,
     TooManyAccesses = 16,
     Blocking = 17,
+    TooManyBlocks = 18,
     NoText = 25,
 }
 

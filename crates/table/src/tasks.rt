@@ -6,6 +6,7 @@ mod name;
 
 use cache::sets::CacheSet;
 use cache::units::Ticks;
+use cache::useful::Useful;
 pub use head::Head;
 pub use name::{Name, is_known, position_of};
 
@@ -18,6 +19,20 @@ pub struct Task {
     pub deadline: Ticks,
     pub jitter: Ticks,
     pub blocking: Ticks,
-    pub ucb: CacheSet,
+    pub ucb: Useful,
     pub ecb: CacheSet,
+}
+
+impl Task {
+    // What stands in a place without a task.
+    pub const NONE: Task = Task {
+        name: Name { bytes: [0; 12] },
+        work: Ticks(0),
+        period: Ticks(0),
+        deadline: Ticks(0),
+        jitter: Ticks(0),
+        blocking: Ticks(0),
+        ucb: Useful::NONE,
+        ecb: CacheSet::EMPTY,
+    };
 }

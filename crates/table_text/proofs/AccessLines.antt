@@ -8,38 +8,40 @@ use Rattle.std.specs.List.{position_or_len}
 use Rattle.std.proofs.lemmas.Bool.{not-false}
 use Rattle.table.specs.Cut.{fields, field}
 use Rattle.table.specs.Fields.{is_name, is_number, number, has_shape, is_within}
-use Rattle.cache.specs.Field.{read_set}
+use Rattle.cache.specs.declared.useful.Form.{Form}
+use Rattle.cache.specs.UsefulField.{ways_of, read_useful, within_ways}
 use Rattle.table.specs.Rows.{unless_fault}
 use Rattle.table.proofs.RowLaws.{fine-row}
 use Rattle.table.specs.declared.tasks.name.Name.{Name}
 use Rattle.table.specs.declared.tasks.Task.{Task}
-use Rattle.table.specs.Tasks.{name_text, pack_name, no_sets, blank}
+use Rattle.table.specs.Tasks.{name_text, pack_name, no_blocks, blank}
 use Rattle.table.specs.Names.{has_name, is_filled}
 use Rattle.table.proofs.Names.{name-kept}
 use Rattle.table.proofs.LineLaws.{both, lies}
 use Rattle.table.specs.declared.accesses.Access.{Access}
 use Rattle.table.specs.AccessLine.{position_named, access_rows, access_said}
-use Rattle.writing.specs.Marks.{marks_fit}
-use Rattle.writing.proofs.Fields.{marks-read, read_fits, read-text}
+use Rattle.writing.specs.Marks.{useful_text, useful_fits}
+use Rattle.writing.proofs.UsefulFields.{useful-read, useful-within}
+use Rattle.writing.proofs.UsefulReads.{useful-says}
 use Rattle.table_text.specs.TableText.{access_fields}
 use Rattle.table_text.specs.Tests.{is_entered}
 use Rattle.table_text.proofs.Numbers.{number_read, number-text}
 use Rattle.table_text.proofs.Lines.{AllPlain}
-use Rattle.table_text.proofs.Plain.{number-plain, marks-plain, name-plain}
+use Rattle.table_text.proofs.Plain.{number-plain, useful-plain, name-plain}
 use Rattle.table_text.proofs.TaskLines.{filled-name, marks-are, shape-says, five-of}
 
-pub record EnteredHolds (sets count : ℕ) (a : Access) : Type 0 where
+pub record EnteredHolds (form : Form) (sets count : ℕ) (a : Access) : Type 0 where
   pub lasts : is_within 1 250000000 a.lasts.0 ≡ true
-  pub ucb : marks_fit sets a.ucb ≡ true
+  pub ucb : useful_fits form sets a.ucb ≡ true
   pub task : a.task < count
   pub ceiling : a.ceiling ≤ a.task
 
-pub entered-holds : (sets count : ℕ) (a : Access) → is_entered sets count a ≡ true → EnteredHolds sets count a
+pub entered-holds : (form : Form) (sets count : ℕ) (a : Access) → is_entered form sets count a ≡ true → EnteredHolds form sets count a
 unfolding is_entered
-entered-holds sets count a e =
+entered-holds form sets count a e =
     let p2 = both _ (leb a.ceiling a.task) e in
     let p1 = both _ (ltb a.task count) p2.0 in
-    let p0 = both (is_within 1 250000000 a.lasts.0) (marks_fit sets a.ucb) p1.0 in
+    let p0 = both (is_within 1 250000000 a.lasts.0) (useful_fits form sets a.ucb) p1.0 in
     record { lasts = p0.0; ucb = p0.1; task = ltb-true _ _ p1.1; ceiling = leb-true _ _ p2.1 }
 
 -- each of these tasks has a name, and no other has it
@@ -52,9 +54,9 @@ own-position ts n k h =
     position_or_len_is (has_name (get_or ts k blank).name) ts k blank (omega arith) (λ j b. n.alone j k b h)
     (λ _. (bytes_eq-Decides (get_or ts k blank).name.bytes (get_or ts k blank).name.bytes).1 refl)
 
-module _ (sets : ℕ) (few : sets ≤ 256) (by-four : sets % 4 ≡ 0) (ts : List Task) where
+module _ (form : Form) (w : ways_of form ≤ 8) (sets : ℕ) (few : sets ≤ 256) (by-four : sets % 4 ≡ 0) (ts : List Task) where
   -- a line with these fields says this access, and is not refused
-  module _ (named : Named ts) (a : Access) (h : EnteredHolds sets (length ts) a) where
+  module _ (named : Named ts) (a : Access) (h : EnteredHolds form sets (length ts) a) where
     task-filled : is_filled (get_or ts a.task blank).name ≡ true
     task-filled = named.filled a.task h.task
 
@@ -64,8 +66,8 @@ module _ (sets : ℕ) (few : sets ≤ 256) (by-four : sets % 4 ≡ 0) (ts : List
     ceiling-filled : is_filled (get_or ts a.ceiling blank).name ≡ true
     ceiling-filled = named.filled a.ceiling under
 
-    pub access-plain : AllPlain (access_fields sets ts a)
-    access-plain = (refl, (name-plain _ (filled-name _ task-filled).0, (name-plain _ (filled-name _ ceiling-filled).0, (number-plain _, (marks-plain sets a.ucb, tt)))))
+    pub access-plain : AllPlain (access_fields form sets ts a)
+    access-plain = (refl, (name-plain _ (filled-name _ task-filled).0, (name-plain _ (filled-name _ ceiling-filled).0, (number-plain _, (useful-plain form sets a.ucb, tt)))))
 
     at-task : position_named ts (name_text (get_or ts a.task blank).name) ≡ a.task
     at-task = ap (λ (n : Name). position_or_len (has_name n) ts) (filled-name _ task-filled).1 ∙ own-position ts named a.task h.task
@@ -76,12 +78,12 @@ module _ (sets : ℕ) (few : sets ≤ 256) (by-four : sets % 4 ≡ 0) (ts : List
     small : a.lasts.0 < 1000000000
     small = let l = lies 1 250000000 a.lasts.0 h.lasts in omega arith
 
-    module _ (l : List ℕ) (f : fields l ≡ access_fields sets ts a) where
-      pub access-says : access_said sets ts l ≡ a
+    module _ (l : List ℕ) (f : fields l ≡ access_fields form sets ts a) where
+      pub access-says : access_said form sets ts l ≡ a
       unfolding access_said
-      access-says = rw (f, at-task, at-ceiling, number_read a.lasts.0 small, marks-read sets few by-four a.ucb h.ucb)
+      access-says = rw (f, at-task, at-ceiling, number_read a.lasts.0 small, useful-read sets few by-four form a.ucb w h.ucb)
 
-      pub access-fine : unless_fault (access_rows sets ts l) (tt {0}) ≡ Ok (tt {0})
+      pub access-fine : unless_fault (access_rows form sets ts l) (tt {0}) ≡ Ok (tt {0})
       unfolding access_rows unless_fault has_shape
       access-fine =
           rw (
@@ -92,19 +94,21 @@ module _ (sets : ℕ) (few : sets ≤ 256) (by-four : sets % 4 ≡ 0) (ts : List
             (filled-name _ ceiling-filled).0,
             number_read a.lasts.0 small,
             h.lasts,
-            marks-read sets few by-four a.ucb h.ucb,
+            useful-read sets few by-four form a.ucb w h.ucb,
+            useful-within sets few by-four form a.ucb,
             lt-ltb a.task (length ts) h.task,
             le-leb a.ceiling a.task h.ceiling,
           )
 
   -- a line that is not refused
-  module _ (l : List ℕ) (e : unless_fault (access_rows sets ts l) (tt {0}) ≡ Ok (tt {0})) where
+  module _ (l : List ℕ) (e : unless_fault (access_rows form sets ts l) (tt {0}) ≡ Ok (tt {0})) where
     record Rows : Type 0 where
       shape : has_shape 65 5 l ≡ true
       names : (is_name (field 1 l) && is_name (field 2 l)) ≡ true
       numeral : is_number (field 3 l) ≡ true
       lasts : is_within 1 250000000 (number (field 3 l)) ≡ true
-      marks : is_some (read_set sets (field 4 l)) ≡ true
+      marks : is_some (read_useful form sets (field 4 l)) ≡ true
+      few-blocks : within_ways form (field 4 l) ≡ true
       positions : (ltb (position_named ts (field 1 l)) (length ts) && leb (position_named ts (field 2 l)) (position_named ts (field 1 l))) ≡ true
 
     rows : Rows
@@ -116,26 +120,28 @@ module _ (sets : ℕ) (few : sets ≤ 256) (by-four : sets % 4 ≡ 0) (ts : List
         let r4 = fine-row _ _ _ _ _ r3.1 in
         let r5 = fine-row _ _ _ _ _ r4.1 in
         let r6 = fine-row _ _ _ _ _ r5.1 in
+        let r7 = fine-row _ _ _ _ _ r6.1 in
         record {
           shape = not-false _ r1.0;
           names = not-false _ r2.0;
           numeral = not-false _ r3.0;
           lasts = not-false _ r4.0;
           marks = not-false _ r5.0;
-          positions = not-false _ r6.0;
+          few-blocks = not-false _ r6.0;
+          positions = not-false _ r7.0;
         }
 
-    ucb-says : read_set sets (field 4 l) ≡ Some (unwrap_or (read_set sets (field 4 l)) no_sets)
-    ucb-says = marks-are _ rows.marks
+    ucb-says : (useful_fits form sets (unwrap_or (read_useful form sets (field 4 l)) no_blocks) ≡ true) × (field 4 l ≡ useful_text form sets (unwrap_or (read_useful form sets (field 4 l)) no_blocks))
+    ucb-says = useful-says sets few by-four form (field 4 l) _ w (marks-are no_blocks _ rows.marks) rows.few-blocks
 
     within : (position_named ts (field 1 l) < length ts) × (position_named ts (field 2 l) ≤ position_named ts (field 1 l))
     within =
         let p = both (ltb (position_named ts (field 1 l)) (length ts)) (leb (position_named ts (field 2 l)) (position_named ts (field 1 l))) rows.positions in
         (ltb-true _ _ p.0, leb-true _ _ p.1)
 
-    pub access-passes : is_entered sets (length ts) (access_said sets ts l) ≡ true
+    pub access-passes : is_entered form sets (length ts) (access_said form sets ts l) ≡ true
     unfolding is_entered access_said
-    access-passes = rw (rows.lasts, read_fits sets few by-four (field 4 l) _ ucb-says) rows.positions
+    access-passes = rw (rows.lasts, ucb-says.0) rows.positions
 
     -- the position that was found for a name has that name
     found : (f : List ℕ) → is_name f ≡ true → position_named ts f < length ts → name_text (get_or ts (position_named ts f) blank).name ≡ f
@@ -144,7 +150,7 @@ module _ (sets : ℕ) (few : sets ≤ 256) (by-four : sets % 4 ≡ 0) (ts : List
         let bytes = (bytes_eq-Decides _ (pack_name f).bytes).0 same in
         ap (λ (s : List ℕ). name_text (record { bytes = s })) bytes ∙ name-kept f is
 
-    pub access-is : fields l ≡ access_fields sets ts (access_said sets ts l)
+    pub access-is : fields l ≡ access_fields form sets ts (access_said form sets ts l)
     unfolding access_said
     access-is =
         let names = both (is_name (field 1 l)) (is_name (field 2 l)) rows.names in
@@ -154,6 +160,6 @@ module _ (sets : ℕ) (few : sets ≤ 256) (by-four : sets % 4 ≡ 0) (ts : List
           found (field 1 l) names.0 within.0,
           found (field 2 l) names.1 (omega (arith, within)),
           ← number-text (field 3 l) rows.numeral (omega arith),
-          ← read-text sets few by-four (field 4 l) _ ucb-says,
+          ← ucb-says.1,
         )
         (five-of (fields l) shape.1 ∙ ap (λ (f : List ℕ). f ∷ field 1 l ∷ field 2 l ∷ field 3 l ∷ field 4 l ∷ []) shape.0)

@@ -55,6 +55,7 @@ abbrev pub table_of : Head → List Task → List Access → Table
 table_of h ts accesses = record {
   sets = h.sets;
   brt = h.brt;
+  form = h.form;
   count = length ts;
   tasks = filled empty_task ts;
   access_count = length accesses;
@@ -70,10 +71,10 @@ module _ (h : Head) (ts : List Task) (accesses : List Access) where
 
   pub task-more : (t : Task) → length ts < 32 → with_task (table_of h ts accesses) t ≡ table_of h (ts ++ (t ∷ [])) accesses
   task-more t l =
-      ap₂ (λ (n : ℕ) (places : List Task). record { sets = h.sets; brt = h.brt; count = n; tasks = places; access_count = length accesses; accesses = filled empty_access accesses })
+      ap₂ (λ (n : ℕ) (places : List Task). record { sets = h.sets; brt = h.brt; form = h.form; count = n; tasks = places; access_count = length accesses; accesses = filled empty_access accesses })
       (sym (length-append ts (t ∷ []))) (filled-more empty_task ts t l)
 
   pub access-more : (a : Access) → length accesses < 32 → with_access (table_of h ts accesses) a ≡ table_of h ts (accesses ++ (a ∷ []))
   access-more a l =
-      ap₂ (λ (n : ℕ) (places : List Access). record { sets = h.sets; brt = h.brt; count = length ts; tasks = filled empty_task ts; access_count = n; accesses = places })
+      ap₂ (λ (n : ℕ) (places : List Access). record { sets = h.sets; brt = h.brt; form = h.form; count = length ts; tasks = filled empty_task ts; access_count = n; accesses = places })
       (sym (length-append accesses (a ∷ []))) (filled-more empty_access accesses a l)

@@ -2,7 +2,7 @@
 use Rattle.std.proofs.Common.{ℕ, ◌+◌, ◌-◌, ◌*◌, ◌/◌, ◌%◌, ◌≤◌, ◌<◌, ◌≡◌, refl, ap, ◌∙◌, Bool, true, false, cond, not, ◌&&◌, ◌||◌, List, [], ◌∷◌, ◌++◌, arith, le-leb, ne_eqb, leb, eqb, length, get_or}
 use Rattle.std.proofs.Math.Decide.{dec_lt}
 use Rattle.std.specs.Prelude.{Option, Some, None, is_some}
-use Rattle.table.specs.Bytes.{is_digit}
+use Rattle.cache.specs.UsefulField.{is_digit}
 use Rattle.table.specs.Fields.{read_digits, read_number, is_number, number}
 use Rattle.table.proofs.Spelling.{number-unique}
 use Rattle.writing.specs.Text.{digit_byte, spelled}

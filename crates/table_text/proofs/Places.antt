@@ -1,17 +1,39 @@
 -- Places without a task, and without an access.
-use Rattle.std.proofs.Common.{◌≡◌, true, refl, replicate, eqb-true}
+use Rattle.std.proofs.Common.{◌≡◌, ℕ, zero, suc, ◌<◌, ◌∙◌, sym, true, refl, replicate, get_or, ext_get_or, arith, eqb-true}
 use Rattle.std.proofs.lemmas.Slice.Eq.{bytes_eq-Decides}
 use Rattle.table.specs.declared.tasks.Task.{Task}
-use Rattle.table.specs.Tasks.{empty_task}
+use Rattle.cache.specs.declared.useful.Useful.{Useful}
+use Rattle.cache.specs.declared.useful.Form.TheVariants.{Hex}
+use Rattle.table.specs.Tasks.{no_sets, no_blocks, empty_task}
 use Rattle.table.proofs.LineLaws.{both}
 use Rattle.table.specs.declared.accesses.Access.{Access}
 use Rattle.table.specs.Accesses.{empty_access}
-use Rattle.writing.specs.Marks.{bits_in, marks_fit}
+use Rattle.writing.specs.Marks.{bits_in, marks_fit, level_fits, useful_fits}
 use Rattle.writing.proofs.Fields.{none-fit}
+use Rattle.writing.proofs.UsefulFields.{fitting}
 use Rattle.table_text.specs.Tests.{is_vacant, is_unused}
 
+-- useful blocks that fit where there is no cache set are none
+none-at : (k : ℕ) → k < 8 → get_or no_blocks.levels k no_sets ≡ no_sets
+none-at zero h = refl
+none-at (suc zero) h = refl
+none-at (suc (suc zero)) h = refl
+none-at (suc (suc (suc zero))) h = refl
+none-at (suc (suc (suc (suc zero)))) h = refl
+none-at (suc (suc (suc (suc (suc zero))))) h = refl
+none-at (suc (suc (suc (suc (suc (suc zero)))))) h = refl
+none-at (suc (suc (suc (suc (suc (suc (suc zero))))))) h = refl
+none-at (suc (suc (suc (suc (suc (suc (suc (suc k)))))))) h = absurd (omega arith)
+
+none-useful : (u : Useful) → useful_fits Hex 0 u ≡ true → u ≡ no_blocks
+none-useful u e =
+    let p = fitting Hex 0 u e in
+    let same = ext_get_or no_sets u.levels no_blocks.levels p.long
+    (λ k h. let l : k < 8 = omega (arith, p.long) in none-fit (get_or u.levels k no_sets) (p.each k l).marks ∙ sym (none-at k l)) in
+    λ i. record { levels = same i }
+
 pub empty-vacant : is_vacant empty_task ≡ true
-unfolding is_vacant marks_fit bits_in
+unfolding is_vacant useful_fits level_fits marks_fit bits_in
 empty-vacant = refl
 
 pub vacant-empty : (t : Task) → is_vacant t ≡ true → t ≡ empty_task
@@ -30,7 +52,7 @@ vacant-empty t e8 =
     let deadline = eqb-true t.deadline.0 0 e3.1 in
     let jitter = eqb-true t.jitter.0 0 e4.1 in
     let blocking = eqb-true t.blocking.0 0 e5.1 in
-    let ucb = none-fit t.ucb e6.1 in
+    let ucb = none-useful t.ucb e6.1 in
     let ecb = none-fit t.ecb e7.1 in
     λ i. record {
       name = record { bytes = name i };
@@ -44,7 +66,7 @@ vacant-empty t e8 =
     }
 
 pub empty-unused : is_unused empty_access ≡ true
-unfolding is_unused marks_fit bits_in
+unfolding is_unused useful_fits level_fits marks_fit bits_in
 empty-unused = refl
 
 pub unused-empty : (a : Access) → is_unused a ≡ true → a ≡ empty_access
@@ -56,5 +78,5 @@ unused-empty a e4 =
     let task = eqb-true a.task 0 e1.0 in
     let ceiling = eqb-true a.ceiling 0 e1.1 in
     let lasts = eqb-true a.lasts.0 0 e2.1 in
-    let ucb = none-fit a.ucb e3.1 in
+    let ucb = none-useful a.ucb e3.1 in
     λ i. record { task = task i; ceiling = ceiling i; lasts = record { 0 = lasts i }; ucb = ucb i }

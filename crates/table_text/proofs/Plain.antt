@@ -10,7 +10,12 @@ use Rattle.cache.specs.declared.sets.CacheSet.{CacheSet}
 use Rattle.cache.specs.Words.{number_of}
 use Rattle.writing.specs.Text.{digit_byte, spelled, hex_byte, hex_digits}
 use Rattle.writing.proofs.Spelling.{spelled_low, spelled_high, by_digits}
-use Rattle.writing.specs.Marks.{marks_text}
+use Rattle.cache.specs.declared.useful.Form.{Form}
+use Rattle.cache.specs.declared.useful.Form.TheVariants.{Hex, Digits}
+use Rattle.cache.specs.declared.useful.Useful.{Useful}
+use Rattle.cache.specs.Counts.{Counts}
+use Rattle.cache.specs.Levels.{set_at, counts}
+use Rattle.writing.specs.Marks.{marks_text, count_digits, useful_text}
 use Rattle.table_text.proofs.Lines.{Plain, plain-append}
 
 pub number-plain : (n : ℕ) → Plain (spelled n)
@@ -35,6 +40,16 @@ digits-plain (suc k) n = plain-append (hex_digits k (n / 16)) (hex_byte (n % 16)
 pub marks-plain : (sets : ℕ) (c : CacheSet) → Plain (marks_text sets c)
 unfolding marks_text
 marks-plain sets c = digits-plain (sets / 4) (number_of c)
+
+counts-plain : (n : ℕ) (U : Counts) → Plain (count_digits n U)
+unfolding count_digits
+counts-plain zero U = refl
+counts-plain (suc n) U = rw (lt-ltb 10 (48 + U n) (omega arith)) (counts-plain n U)
+
+pub useful-plain : (form : Form) (sets : ℕ) (u : Useful) → Plain (useful_text form sets u)
+unfolding useful_text
+useful-plain Hex sets u = marks-plain sets (set_at u.levels 0)
+useful-plain (Digits ways) sets u = counts-plain sets (counts ways u)
 
 name-byte-plain : (b : ℕ) → is_name_byte b ≡ true → ltb 10 b ≡ true
 name-byte-plain b e = elim (dec_lt 10 b) [ yes l ↦ lt-ltb 10 b l | no l ↦ absurd (none (omega arith)) ]

@@ -12,6 +12,7 @@ use Rattle.table.specs.declared.refusals.Reason.TheVariants.{Shape}
 use Rattle.table.specs.declared.refusals.Refusal.{Refusal}
 use Rattle.table.specs.Rows.{Conditions, unless_fault}
 use Rattle.table.proofs.RowLaws.{fine-any, fine-row}
+use Rattle.cache.specs.declared.useful.Form.{Form}
 use Rattle.table.specs.declared.tasks.Task.{Task}
 use Rattle.table.specs.declared.tasks.head.Head.{Head}
 use Rattle.table.specs.HeadLine.{head_in_range, head_rows, head_said}
@@ -23,7 +24,7 @@ use Rattle.table.specs.Tables.{tasks_of, new_table, with_task, with_access}
 use Rattle.table.specs.Reading.{told, then_read, is_task_line, is_access_line, task_line_rows, access_line_rows, line_rows, with_line, ended, read_from, read_lines, read_text, is_ended, text_rows}
 use Rattle.table_text.specs.TableText.{head_fields, task_fields, access_fields, lines_of}
 use Rattle.table_text.specs.Tests.{is_next, are_next, is_entered}
-use Rattle.table_text.proofs.TaskLines.{few-sets, sets-by-four, head-passes, head-is, task-passes, task-is}
+use Rattle.table_text.proofs.TaskLines.{few-sets, sets-by-four, few-ways, head-passes, head-is, task-passes, task-is}
 use Rattle.table_text.proofs.AccessLines.{access-passes, access-is}
 use Rattle.table_text.proofs.Filled.{table_of, its-tasks, its-accesses, task-more, access-more}
 
@@ -48,27 +49,27 @@ end-accepted {result} table e = go (ended table) e
 
 -- ---- one task more
 
-pub are-next-more : (sets : ℕ) (above ts : List Task) (t : Task) → are_next sets above ts ≡ true → is_next sets (above ++ ts) t ≡ true → are_next sets above (ts ++ (t ∷ [])) ≡ true
+pub are-next-more : (form : Form) (sets : ℕ) (above ts : List Task) (t : Task) → are_next form sets above ts ≡ true → is_next form sets (above ++ ts) t ≡ true → are_next form sets above (ts ++ (t ∷ [])) ≡ true
 unfolding are_next
-are-next-more sets above [] t p q =
-    let e : is_next sets above t ≡ true = rw (append-nil above) at q in
+are-next-more form sets above [] t p q =
+    let e : is_next form sets above t ≡ true = rw (append-nil above) at q in
     rw e
-are-next-more sets above (u ∷ ts) t p q =
-    let both = (and-eq-true_iff (is_next sets above u) (are_next sets (above ++ (u ∷ [])) ts)).0 p in
-    rw both.0 (are-next-more sets (above ++ (u ∷ [])) ts t both.1 (rw (append_assoc above (u ∷ []) ts) q))
+are-next-more form sets above (u ∷ ts) t p q =
+    let both = (and-eq-true_iff (is_next form sets above u) (are_next form sets (above ++ (u ∷ [])) ts)).0 p in
+    rw both.0 (are-next-more form sets (above ++ (u ∷ [])) ts t both.1 (rw (append_assoc above (u ∷ []) ts) q))
 
 -- ---- the lists of a table while it is read
 
 pub record Passed (h : Head) (ts : List Task) (accesses : List Access) : Type 0 where
   pub head : head_in_range h ≡ true
   pub few : length ts ≤ 32
-  pub tasks : are_next h.sets [] ts ≡ true
+  pub tasks : are_next h.form h.sets [] ts ≡ true
   pub few-accesses : length accesses ≤ 32
-  pub entered : list_all (is_entered h.sets (length ts)) accesses ≡ true
+  pub entered : list_all (is_entered h.form h.sets (length ts)) accesses ≡ true
 
 -- the fields of its lines
 abbrev pub lines_so_far : Head → List Task → List Access → List (List (List ℕ))
-lines_so_far h ts accesses = head_fields h.sets h.brt.0 ∷ map (task_fields h.sets) ts ++ map (access_fields h.sets ts) accesses
+lines_so_far h ts accesses = head_fields h.sets h.brt.0 h.form ∷ map (task_fields h.form h.sets) ts ++ map (access_fields h.form h.sets ts) accesses
 
 pub its-lines : (h : Head) (ts : List Task) (accesses : List Access) → lines_of (table_of h ts accesses) ≡ lines_so_far h ts accesses
 its-lines h ts accesses = rw (its-tasks h ts accesses, its-accesses h ts accesses)
@@ -93,17 +94,17 @@ module _ (h : Head) (ts : List Task) (accesses : List Access) (l : List ℕ) (p 
     early : accesses ≡ []
     early = no-length accesses (ltb-false 0 _ (fine-row _ _ _ _ _ (fine-row _ _ _ _ _ e).1).0)
 
-    fine : unless_fault (task_rows h.sets ts l) (tt {0}) ≡ Ok (tt {0})
+    fine : unless_fault (task_rows h.form h.sets ts l) (tt {0}) ≡ Ok (tt {0})
     fine = rw (its-tasks h ts accesses) at (fine-row _ _ _ _ _ (fine-row _ _ _ _ _ e).1).1
 
     abbrev t : Task
-    t = task_said h.sets l
+    t = task_said h.form h.sets l
 
     more : Passed h (ts ++ (t ∷ [])) []
     more = record {
       head = p.head;
       few = rw length-append (omega (arith, few));
-      tasks = are-next-more h.sets [] ts t p.tasks (task-passes h.sets (few-sets h p.head) (sets-by-four h p.head) ts l fine);
+      tasks = are-next-more h.form h.sets [] ts t p.tasks (task-passes h.form (few-ways h p.head) h.sets (few-sets h p.head) (sets-by-four h p.head) ts l fine);
       few-accesses = omega arith;
       entered = refl;
     }
@@ -115,19 +116,19 @@ module _ (h : Head) (ts : List Task) (accesses : List Access) (l : List ℕ) (p 
       is = rw early (task-more h ts [] t few);
       passed = more;
       lines =
-          rw (early, append-nil (map (task_fields h.sets) (ts ++ (t ∷ []))), append-nil (map (task_fields h.sets) ts), task-is h.sets (few-sets h p.head) (sets-by-four h p.head) ts l fine)
-          (ap (λ (m : List (List (List ℕ))). head_fields h.sets h.brt.0 ∷ m) (map-append (task_fields h.sets) ts (t ∷ [])));
+          rw (early, append-nil (map (task_fields h.form h.sets) (ts ++ (t ∷ []))), append-nil (map (task_fields h.form h.sets) ts), task-is h.form (few-ways h p.head) h.sets (few-sets h p.head) (sets-by-four h p.head) ts l fine)
+          (ap (λ (m : List (List (List ℕ))). head_fields h.sets h.brt.0 h.form ∷ m) (map-append (task_fields h.form h.sets) ts (t ∷ [])));
     }
 
   module _ (e : unless_fault (access_line_rows (table_of h ts accesses) l) (tt {0}) ≡ Ok (tt {0})) where
     few-yet : length accesses < 32
     few-yet = leb-false 32 _ (fine-row _ _ _ _ _ e).0
 
-    access-fine : unless_fault (access_rows h.sets ts l) (tt {0}) ≡ Ok (tt {0})
+    access-fine : unless_fault (access_rows h.form h.sets ts l) (tt {0}) ≡ Ok (tt {0})
     access-fine = rw (its-tasks h ts accesses) at (fine-row _ _ _ _ _ e).1
 
     abbrev a : Access
-    a = access_said h.sets ts l
+    a = access_said h.form h.sets ts l
 
     more-accesses : Passed h ts (accesses ++ (a ∷ []))
     more-accesses = record {
@@ -135,7 +136,7 @@ module _ (h : Head) (ts : List Task) (accesses : List Access) (l : List ℕ) (p 
       few = p.few;
       tasks = p.tasks;
       few-accesses = rw length-append (omega (arith, few-yet));
-      entered = rw (list_all-append (is_entered h.sets (length ts)) accesses (a ∷ []), p.entered, access-passes h.sets (few-sets h p.head) (sets-by-four h p.head) ts l access-fine);
+      entered = rw (list_all-append (is_entered h.form h.sets (length ts)) accesses (a ∷ []), p.entered, access-passes h.form (few-ways h p.head) h.sets (few-sets h p.head) (sets-by-four h p.head) ts l access-fine);
     }
 
     with-access : With h ts accesses l (with_access (table_of h ts accesses) a)
@@ -145,9 +146,9 @@ module _ (h : Head) (ts : List Task) (accesses : List Access) (l : List ℕ) (p 
       is = access-more h ts accesses a few-yet;
       passed = more-accesses;
       lines =
-          rw (map-append (access_fields h.sets ts) accesses (a ∷ []), access-is h.sets (few-sets h p.head) (sets-by-four h p.head) ts l access-fine)
-          (ap (λ (m : List (List (List ℕ))). head_fields h.sets h.brt.0 ∷ m)
-          (sym (append_assoc (map (task_fields h.sets) ts) (map (access_fields h.sets ts) accesses) (access_fields h.sets ts a ∷ []))));
+          rw (map-append (access_fields h.form h.sets ts) accesses (a ∷ []), access-is h.form (few-ways h p.head) h.sets (few-sets h p.head) (sets-by-four h p.head) ts l access-fine)
+          (ap (λ (m : List (List (List ℕ))). head_fields h.sets h.brt.0 h.form ∷ m)
+          (sym (append_assoc (map (task_fields h.form h.sets) ts) (map (access_fields h.form h.sets ts) accesses) (access_fields h.form h.sets ts a ∷ []))));
     }
 
   -- so any line
@@ -156,7 +157,7 @@ module _ (h : Head) (ts : List Task) (accesses : List Access) (l : List ℕ) (p 
     where
       go : (t a : Bool)
           → unless_fault (cond t (task_line_rows (table_of h ts accesses) l) (cond a (access_line_rows (table_of h ts accesses) l) ((true, Shape) ∷ []))) (tt {0}) ≡ Ok (tt {0})
-          → With h ts accesses l (cond t (with_task (table_of h ts accesses) (task_said h.sets l)) (with_access (table_of h ts accesses) (access_said h.sets (tasks_of (table_of h ts accesses)) l)))
+          → With h ts accesses l (cond t (with_task (table_of h ts accesses) (task_said h.form h.sets l)) (with_access (table_of h ts accesses) (access_said h.form h.sets (tasks_of (table_of h ts accesses)) l)))
       go true a e = with-task e
       go false true e = rw (its-tasks h ts accesses) (with-access e)
       go false false e = absurd (false≢true (sym (fine-row _ _ _ _ _ e).0))
@@ -224,3 +225,10 @@ unfolding read_text
 text-read text table e =
     let q = step-accepted 0 (text_rows text) text (λ text. read_lines (lines text)) e in
     (not-false _ (fine-row _ _ _ _ _ (fine-row _ _ _ _ _ q.0).1).0, lines-read (lines text) table q.1)
+
+-- a text that is read is no longer than one may be
+pub text-short : (text : List ℕ) (table : Table) → read_text text ≡ Ok table → length text ≤ 16384
+unfolding read_text
+text-short text table e =
+    let q = step-accepted 0 (text_rows text) text (λ text. read_lines (lines text)) e in
+    ltb-false 16384 (length text) (fine-row _ _ _ _ _ q.0).0

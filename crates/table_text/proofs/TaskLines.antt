@@ -1,32 +1,38 @@
 -- Line 1 and the line of a task: a line that says what is tested here is not refused and says the same again, and a line that is not refused is what is written of
 -- what it says, which passes the tests.
-use Rattle.std.proofs.Common.{◌≡◌, ℕ, ◌%◌, ◌≤◌, ◌<◌, true, false, not, ◌&&◌, List, [], ◌∷◌, length, get_or, refl, ap, ◌∙◌, arith, Option, Some, None, Ok, eqb-true, eqb}
+use Rattle.std.proofs.Common.{◌≡◌, ℕ, ◌%◌, ◌≤◌, ◌<◌, Bool, true, false, not, ◌&&◌, ◌||◌, ◌⊎◌, inl, inr, List, [], ◌∷◌, length, get_or, refl, ap, ◌∙◌, arith, Option, Some, None, Ok, eqb-true, eqb}
 use Rattle.std.proofs.lemmas.Bool.{false≢true, not-false, not-true}
 use Rattle.std.proofs.lemmas.Slice.Eq.{bytes_eq-Decides}
-use Rattle.std.specs.Prelude.{is_some, unwrap_or}
+use Rattle.std.specs.Prelude.{is_some, unwrap_or, option_map, slice_get}
 use Rattle.std.specs.Str.{bytes_eq}
 use Rattle.table.specs.Cut.{fields, field, field_count}
-use Rattle.table.specs.Fields.{is_letter, is_name, is_number, has_shape}
+use Rattle.table.specs.Fields.{is_letter, is_name, read_number, is_number, number, has_shape}
 use Rattle.cache.specs.declared.sets.CacheSet.{CacheSet}
 use Rattle.cache.specs.Field.{read_set}
+use Rattle.cache.specs.declared.useful.Form.{Form}
+use Rattle.cache.specs.declared.useful.Form.TheVariants.{Hex, Digits}
+use Rattle.cache.specs.UsefulField.{ways_of, read_useful, within_ways}
 use Rattle.table.specs.Rows.{unless_fault}
 use Rattle.table.proofs.RowLaws.{fine-row}
 use Rattle.table.specs.declared.tasks.name.Name.{Name}
 use Rattle.table.specs.declared.tasks.Task.{Task}
 use Rattle.table.specs.declared.tasks.head.Head.{Head}
-use Rattle.table.specs.Tasks.{name_text, pack_name, no_sets}
+use Rattle.table.specs.Tasks.{name_text, pack_name, no_sets, no_blocks}
 use Rattle.table.specs.Names.{is_filled, knows}
-use Rattle.table.specs.HeadLine.{head_in_range, head_rows, head_said}
+use Rattle.table.specs.HeadLine.{is_head, ways_field, read_form, head_in_range, head_rows, head_said}
 use Rattle.table.specs.TaskLine.{times_of, times_said, times_in_range, times_in_order, task_rows, task_said}
 use Rattle.table.proofs.Names.{name-kept}
 use Rattle.table.proofs.LineLaws.{both, lies, ranges, order}
-use Rattle.writing.specs.Marks.{marks_fit}
+use Rattle.writing.specs.Text.{spelled}
+use Rattle.writing.specs.Marks.{marks_fit, useful_text, useful_fits}
 use Rattle.writing.proofs.Fields.{marks-read, read_fits, read-text}
-use Rattle.table_text.specs.TableText.{head_fields, task_fields}
+use Rattle.writing.proofs.UsefulFields.{useful-read, useful-within}
+use Rattle.writing.proofs.UsefulReads.{useful-says}
+use Rattle.table_text.specs.TableText.{ways_fields, head_fields, task_fields}
 use Rattle.table_text.specs.Tests.{is_next}
 use Rattle.table_text.proofs.Numbers.{number_read, number-text}
 use Rattle.table_text.proofs.Lines.{AllPlain}
-use Rattle.table_text.proofs.Plain.{number-plain, marks-plain, name-plain}
+use Rattle.table_text.proofs.Plain.{number-plain, marks-plain, useful-plain, name-plain}
 
 -- ---- names
 
@@ -43,11 +49,11 @@ pub packed-filled : (f : List ℕ) → is_name f ≡ true → is_filled (pack_na
 unfolding is_filled
 packed-filled f h = rw (name-kept f h, h) ((bytes_eq-Decides (pack_name f).bytes (pack_name f).bytes).1 refl)
 
--- ---- sets
+-- ---- what a field says, where it says something
 
-pub marks-are : (r : Option CacheSet) → is_some r ≡ true → r ≡ Some (unwrap_or r no_sets)
-marks-are (Some c) e = refl
-marks-are None e = absurd (false≢true e)
+pub marks-are : {X : Type 0} (none : X) (r : Option X) → is_some r ≡ true → r ≡ Some (unwrap_or r none)
+marks-are none (Some c) e = refl
+marks-are none None e = absurd (false≢true e)
 
 -- ---- shapes
 
@@ -81,14 +87,16 @@ nine-of (a ∷ b ∷ c ∷ d ∷ l) h = ap (λ (m : List (List ℕ)). a ∷ b �
 
 -- ---- line 1
 
-head-small : (h : Head) → head_in_range h ≡ true → (h.sets < 1000000000) × (h.brt.0 < 1000000000) × (h.sets ≤ 256) × (h.sets % 4 ≡ 0)
+head-small : (h : Head) → head_in_range h ≡ true
+    → (h.sets < 1000000000) × (h.brt.0 < 1000000000) × (h.sets ≤ 256) × (h.sets % 4 ≡ 0) × (ways_of h.form ≤ 8)
 unfolding head_in_range
 head-small h e =
-    let p = both _ _ e in
+    let w = both _ _ e in
+    let p = both _ _ w.0 in
     let q = both _ _ p.0 in
     let s = lies 4 256 h.sets q.0 in
     let b = lies 0 100000 h.brt.0 p.1 in
-    (omega arith, omega arith, s.1, eqb-true _ _ q.1)
+    (omega arith, omega arith, s.1, eqb-true _ _ q.1, (lies 1 8 _ w.1).1)
 
 -- the sets of a table's line 1
 pub few-sets : (h : Head) → head_in_range h ≡ true → h.sets ≤ 256
@@ -97,66 +105,134 @@ few-sets h e = (head-small h e).2
 pub sets-by-four : (h : Head) → head_in_range h ≡ true → h.sets % 4 ≡ 0
 sets-by-four h e = (head-small h e).3
 
-pub head-plain : (h : Head) → AllPlain (head_fields h.sets h.brt.0)
-head-plain h = (refl, (number-plain _, (number-plain _, tt)))
+pub few-ways : (h : Head) → head_in_range h ≡ true → ways_of h.form ≤ 8
+few-ways h e = (head-small h e).4
+
+ways-plain : (form : Form) → AllPlain (ways_fields form)
+ways-plain Hex = tt
+ways-plain (Digits ways) = (number-plain _, tt)
+
+pub head-plain : (h : Head) → AllPlain (head_fields h.sets h.brt.0 h.form)
+head-plain h = (refl, (number-plain _, (number-plain _, ways-plain h.form)))
+
+-- the ways that are named are read
+ways-read : (form : Form) (a b c : List ℕ) → ways_of form ≤ 8 → read_form (slice_get (a ∷ b ∷ c ∷ ways_fields form) 3) ≡ Some form
+unfolding read_form
+ways-read Hex a b c w = refl
+ways-read (Digits ways) a b c w = let small : ways < 1000000000 = omega arith in rw (number_read ways small) refl
+
+-- it has three fields or four
+shape-of : (form : Form) (l b c : List ℕ) → fields l ≡ (75 ∷ []) ∷ b ∷ c ∷ ways_fields form → is_head l ≡ true
+unfolding is_head has_shape
+shape-of Hex l b c f = rw f refl
+shape-of (Digits ways) l b c f = rw f refl
 
 -- a line with these fields says this head, and is not refused
-module _ (h : Head) (e : head_in_range h ≡ true) (l : List ℕ) (f : fields l ≡ head_fields h.sets h.brt.0) where
+module _ (h : Head) (e : head_in_range h ≡ true) (l : List ℕ) (f : fields l ≡ head_fields h.sets h.brt.0 h.form) where
   pub head-says : head_said l ≡ h
-  head-says = let s = head-small h e in rw (f, number_read h.sets s.0, number_read h.brt.0 s.1)
+  head-says = let s = head-small h e in rw (f, number_read h.sets s.0, number_read h.brt.0 s.1, ways-read h.form (75 ∷ []) (spelled h.sets) (spelled h.brt.0) s.4)
 
   pub head-fine : unless_fault (head_rows l) (tt {0}) ≡ Ok (tt {0})
-  unfolding unless_fault has_shape
-  head-fine = let s = head-small h e in rw (f, number_read h.sets s.0, number_read h.brt.0 s.1, e)
+  unfolding unless_fault
+  head-fine =
+      let s = head-small h e in
+      rw (
+        shape-of h.form l _ _ f,
+        f,
+        number_read h.sets s.0,
+        number_read h.brt.0 s.1,
+        ways-read h.form (75 ∷ []) (spelled h.sets) (spelled h.brt.0) s.4,
+        e,
+      )
+
+-- a fourth field, if there is one
+listed : Option (List ℕ) → List (List ℕ)
+listed None = []
+listed (Some f) = f ∷ []
+
+-- is what is written of the form that it says
+form-is : (o : Option (List ℕ)) → is_some (read_form o) ≡ true → ways_of (unwrap_or (read_form o) Hex) ≤ 8 → listed o ≡ ways_fields (unwrap_or (read_form o) Hex)
+unfolding read_form listed
+form-is None e w = refl
+form-is (Some f) e w = go (read_number f) refl e w
+  where
+    go : (r : Option ℕ) → read_number f ≡ r → is_some (option_map Digits r) ≡ true → ways_of (unwrap_or (option_map Digits r) Hex) ≤ 8
+        → f ∷ [] ≡ ways_fields (unwrap_or (option_map Digits r) Hex)
+    go None q e w = absurd (false≢true e)
+    go (Some n) q e w =
+        let is : number f ≡ n = ap (λ (o : Option ℕ). unwrap_or o 0) q in
+        ap (λ (s : List ℕ). s ∷ []) (number-text f (ap (λ (o : Option ℕ). is_some o) q) (omega (arith, is, w)) ∙ ap spelled is)
+
+three-or-four : (l : List (List ℕ)) → (length l ≡ 3) ⊎ (length l ≡ 4) → l ≡ get_or l 0 [] ∷ get_or l 1 [] ∷ get_or l 2 [] ∷ listed (slice_get l 3)
+unfolding listed
+three-or-four [] (inl h) = absurd (omega arith)
+three-or-four [] (inr h) = absurd (omega arith)
+three-or-four (a ∷ []) (inl h) = absurd (omega arith)
+three-or-four (a ∷ []) (inr h) = absurd (omega arith)
+three-or-four (a ∷ b ∷ []) (inl h) = absurd (omega arith)
+three-or-four (a ∷ b ∷ []) (inr h) = absurd (omega arith)
+three-or-four (a ∷ b ∷ c ∷ []) h = refl
+three-or-four (a ∷ b ∷ c ∷ d ∷ []) h = refl
+three-or-four (a ∷ b ∷ c ∷ d ∷ g ∷ l) (inl h) = absurd (omega arith)
+three-or-four (a ∷ b ∷ c ∷ d ∷ g ∷ l) (inr h) = absurd (omega arith)
+
+head-shape : (l : List ℕ) → is_head l ≡ true → (field 0 l ≡ 75 ∷ []) × ((field_count l ≡ 3) ⊎ (field_count l ≡ 4))
+unfolding is_head
+head-shape l e = go (has_shape 75 3 l) refl e
+  where
+    go : (t : Bool) → has_shape 75 3 l ≡ t → (t || has_shape 75 4 l) ≡ true → (field 0 l ≡ 75 ∷ []) × ((field_count l ≡ 3) ⊎ (field_count l ≡ 4))
+    go true q e = let s = shape-says 75 3 l q in (s.0, inl s.1)
+    go false q e = let s = shape-says 75 4 l e in (s.0, inr s.1)
 
 -- a line that is not refused
 module _ (l : List ℕ) (e : unless_fault (head_rows l) (tt {0}) ≡ Ok (tt {0})) where
   pub head-passes : head_in_range (head_said l) ≡ true
   head-passes = not-false _ (fine-row _ _ _ _ _ (fine-row _ _ _ _ _ (fine-row _ _ _ _ _ e).1).1).0
 
-  pub head-is : fields l ≡ head_fields (head_said l).sets (head_said l).brt.0
+  pub head-is : fields l ≡ head_fields (head_said l).sets (head_said l).brt.0 (head_said l).form
   head-is =
       let r1 = fine-row _ _ _ _ _ e in
-      let shape = shape-says 75 3 l (not-false _ r1.0) in
-      let numbers = both (is_number (field 1 l)) (is_number (field 2 l)) (not-false _ (fine-row _ _ _ _ _ r1.1).0) in
+      let shape = head-shape l (not-false _ r1.0) in
+      let said = both (is_number (field 1 l) && is_number (field 2 l)) (is_some (read_form (ways_field l))) (not-false _ (fine-row _ _ _ _ _ r1.1).0) in
+      let numbers = both (is_number (field 1 l)) (is_number (field 2 l)) said.0 in
       let s = head-small (head_said l) head-passes in
-      rw (← number-text (field 1 l) numbers.0 s.0, ← number-text (field 2 l) numbers.1 s.1)
-      (three-of (fields l) shape.1 ∙ ap (λ (f : List ℕ). f ∷ field 1 l ∷ field 2 l ∷ []) shape.0)
+      rw (← number-text (field 1 l) numbers.0 s.0, ← number-text (field 2 l) numbers.1 s.1, ← form-is (ways_field l) said.1 s.4)
+      (three-or-four (fields l) shape.1 ∙ ap (λ (f : List ℕ). f ∷ field 1 l ∷ field 2 l ∷ listed (ways_field l)) shape.0)
 
 -- ---- the line of a task
 
-pub record NextHolds (sets : ℕ) (above : List Task) (t : Task) : Type 0 where
+pub record NextHolds (form : Form) (sets : ℕ) (above : List Task) (t : Task) : Type 0 where
   pub filled : is_filled t.name ≡ true
   pub in-range : times_in_range (times_of t) ≡ true
   pub in_order : times_in_order (times_of t) ≡ true
-  pub ucb : marks_fit sets t.ucb ≡ true
+  pub ucb : useful_fits form sets t.ucb ≡ true
   pub ecb : marks_fit sets t.ecb ≡ true
   pub new-name : knows t.name above ≡ false
 
-pub next-holds : (sets : ℕ) (above : List Task) (t : Task) → is_next sets above t ≡ true → NextHolds sets above t
+pub next-holds : (form : Form) (sets : ℕ) (above : List Task) (t : Task) → is_next form sets above t ≡ true → NextHolds form sets above t
 unfolding is_next
-next-holds sets above t e =
+next-holds form sets above t e =
     let p4 = both _ (not (knows t.name above)) e in
     let p3 = both _ (marks_fit sets t.ecb) p4.0 in
-    let p2 = both _ (marks_fit sets t.ucb) p3.0 in
+    let p2 = both _ (useful_fits form sets t.ucb) p3.0 in
     let p1 = both (is_filled t.name) _ p2.0 in
     let p0 = both (times_in_range (times_of t)) (times_in_order (times_of t)) p1.1 in
     record { filled = p1.0; in-range = p0.0; in_order = p0.1; ucb = p2.1; ecb = p3.1; new-name = not-true _ p4.1 }
 
-pub task-plain : (sets : ℕ) (t : Task) → is_name (name_text t.name) ≡ true → AllPlain (task_fields sets t)
-task-plain sets t h =
-    (refl, (name-plain _ h, (number-plain _, (number-plain _, (number-plain _, (number-plain _, (number-plain _, (marks-plain sets t.ucb, (marks-plain sets t.ecb, tt)))))))))
+pub task-plain : (form : Form) (sets : ℕ) (t : Task) → is_name (name_text t.name) ≡ true → AllPlain (task_fields form sets t)
+task-plain form sets t h =
+    (refl, (name-plain _ h, (number-plain _, (number-plain _, (number-plain _, (number-plain _, (number-plain _, (useful-plain form sets t.ucb, (marks-plain sets t.ecb, tt)))))))))
 
-module _ (sets : ℕ) (few : sets ≤ 256) (by-four : sets % 4 ≡ 0) where
+module _ (form : Form) (w : ways_of form ≤ 8) (sets : ℕ) (few : sets ≤ 256) (by-four : sets % 4 ≡ 0) where
   -- a line with these fields says this task, and is not refused
-  module _ (above : List Task) (t : Task) (h : NextHolds sets above t) (l : List ℕ) (f : fields l ≡ task_fields sets t) where
+  module _ (above : List Task) (t : Task) (h : NextHolds form sets above t) (l : List ℕ) (f : fields l ≡ task_fields form sets t) where
     small : (t.work.0 < 1000000000) × (t.period.0 < 1000000000) × (t.deadline.0 < 1000000000) × (t.jitter.0 < 1000000000) × (t.blocking.0 < 1000000000)
     small =
         let r = ranges (times_of t) h.in-range in
         let o = order (times_of t) h.in_order in
         (omega arith, omega arith, omega arith, omega arith, omega arith)
 
-    pub task-says : task_said sets l ≡ t
+    pub task-says : task_said form sets l ≡ t
     unfolding task_said
     task-says =
         let n = small in
@@ -168,11 +244,11 @@ module _ (sets : ℕ) (few : sets ≤ 256) (by-four : sets % 4 ≡ 0) where
           number_read t.deadline.0 n.2,
           number_read t.jitter.0 n.3,
           number_read t.blocking.0 n.4,
-          marks-read sets few by-four t.ucb h.ucb,
+          useful-read sets few by-four form t.ucb w h.ucb,
           marks-read sets few by-four t.ecb h.ecb,
         )
 
-    pub task-fine : unless_fault (task_rows sets above l) (tt {0}) ≡ Ok (tt {0})
+    pub task-fine : unless_fault (task_rows form sets above l) (tt {0}) ≡ Ok (tt {0})
     unfolding task_rows unless_fault has_shape
     task-fine =
         let n = small in
@@ -185,7 +261,8 @@ module _ (sets : ℕ) (few : sets ≤ 256) (by-four : sets % 4 ≡ 0) where
           number_read t.deadline.0 n.2,
           number_read t.jitter.0 n.3,
           number_read t.blocking.0 n.4,
-          marks-read sets few by-four t.ucb h.ucb,
+          useful-read sets few by-four form t.ucb w h.ucb,
+          useful-within sets few by-four form t.ucb,
           marks-read sets few by-four t.ecb h.ecb,
           h.in-range,
           h.in_order,
@@ -193,13 +270,14 @@ module _ (sets : ℕ) (few : sets ≤ 256) (by-four : sets % 4 ≡ 0) where
         )
 
   -- a line that is not refused
-  module _ (above : List Task) (l : List ℕ) (e : unless_fault (task_rows sets above l) (tt {0}) ≡ Ok (tt {0})) where
+  module _ (above : List Task) (l : List ℕ) (e : unless_fault (task_rows form sets above l) (tt {0}) ≡ Ok (tt {0})) where
     record Rows : Type 0 where
       shape : has_shape 84 9 l ≡ true
       name : is_name (field 1 l) ≡ true
       numbers : (is_number (field 2 l) && is_number (field 3 l) && is_number (field 4 l) && is_number (field 5 l) && is_number (field 6 l)) ≡ true
       in-range : times_in_range (times_said (field 2 l) (field 3 l) (field 4 l) (field 5 l) (field 6 l)) ≡ true
-      marks : (is_some (read_set sets (field 7 l)) && is_some (read_set sets (field 8 l))) ≡ true
+      marks : (is_some (read_useful form sets (field 7 l)) && is_some (read_set sets (field 8 l))) ≡ true
+      within : within_ways form (field 7 l) ≡ true
       in_order : times_in_order (times_said (field 2 l) (field 3 l) (field 4 l) (field 5 l) (field 6 l)) ≡ true
       new-name : knows (pack_name (field 1 l)) above ≡ false
 
@@ -213,34 +291,39 @@ module _ (sets : ℕ) (few : sets ≤ 256) (by-four : sets % 4 ≡ 0) where
         let r5 = fine-row _ _ _ _ _ r4.1 in
         let r6 = fine-row _ _ _ _ _ r5.1 in
         let r7 = fine-row _ _ _ _ _ r6.1 in
+        let r8 = fine-row _ _ _ _ _ r7.1 in
         record {
           shape = not-false _ r1.0;
           name = not-false _ r2.0;
           numbers = not-false _ r3.0;
           in-range = not-false _ r4.0;
           marks = not-false _ r5.0;
-          in_order = not-false _ r6.0;
-          new-name = r7.0;
+          within = not-false _ r6.0;
+          in_order = not-false _ r7.0;
+          new-name = r8.0;
         }
 
-    sets-say : (read_set sets (field 7 l) ≡ Some (unwrap_or (read_set sets (field 7 l)) no_sets)) × (read_set sets (field 8 l) ≡ Some (unwrap_or (read_set sets (field 8 l)) no_sets))
+    sets-say : (read_useful form sets (field 7 l) ≡ Some (unwrap_or (read_useful form sets (field 7 l)) no_blocks)) × (read_set sets (field 8 l) ≡ Some (unwrap_or (read_set sets (field 8 l)) no_sets))
     sets-say =
-        let p = both (is_some (read_set sets (field 7 l))) (is_some (read_set sets (field 8 l))) rows.marks in
-        (marks-are _ p.0, marks-are _ p.1)
+        let p = both (is_some (read_useful form sets (field 7 l))) (is_some (read_set sets (field 8 l))) rows.marks in
+        (marks-are no_blocks _ p.0, marks-are no_sets _ p.1)
 
-    pub task-passes : is_next sets above (task_said sets l) ≡ true
+    ucb-says : (useful_fits form sets (unwrap_or (read_useful form sets (field 7 l)) no_blocks) ≡ true) × (field 7 l ≡ useful_text form sets (unwrap_or (read_useful form sets (field 7 l)) no_blocks))
+    ucb-says = useful-says sets few by-four form (field 7 l) _ w sets-say.0 rows.within
+
+    pub task-passes : is_next form sets above (task_said form sets l) ≡ true
     unfolding is_next task_said
     task-passes =
         rw (
           packed-filled (field 1 l) rows.name,
           rows.in-range,
           rows.in_order,
-          read_fits sets few by-four (field 7 l) _ sets-say.0,
+          ucb-says.0,
           read_fits sets few by-four (field 8 l) _ sets-say.1,
           rows.new-name,
         )
 
-    pub task-is : fields l ≡ task_fields sets (task_said sets l)
+    pub task-is : fields l ≡ task_fields form sets (task_said form sets l)
     unfolding task_said
     task-is =
         let p6 = both _ (is_number (field 6 l)) rows.numbers in
@@ -258,7 +341,7 @@ module _ (sets : ℕ) (few : sets ≤ 256) (by-four : sets % 4 ≡ 0) where
           ← number-text (field 4 l) p4.1 (omega arith),
           ← number-text (field 5 l) p5.1 (omega arith),
           ← number-text (field 6 l) p6.1 (omega arith),
-          ← read-text sets few by-four (field 7 l) _ sets-say.0,
+          ← ucb-says.1,
           ← read-text sets few by-four (field 8 l) _ sets-say.1,
         )
         (nine-of (fields l) shape.1

@@ -1,5 +1,5 @@
 -- The tests by which a table value is found to be one that a text gives: those of the reader, on a table that is there already.
-use Rattle.std.specs.Prelude.{ℕ, Bool, true, not, ◌&&◌, List, [], ◌∷◌, ◌++◌, drop, replicate, is_ok, nat_le, nat_lt, ◌==◌}
+use Rattle.std.specs.Prelude.{ℕ, Bool, true, not, ◌&&◌, List, [], ◌∷◌, ◌++◌, drop, replicate, length, is_ok, nat_le, nat_lt, ◌==◌}
 use Rattle.std.specs.List.{list_all}
 use Rattle.std.specs.Str.{bytes_eq}
 use Rattle.table.specs.Fields.{is_within}
@@ -9,32 +9,35 @@ use Rattle.table.specs.HeadLine.{head_in_range}
 use Rattle.table.specs.TaskLine.{times_of, times_in_range, times_in_order}
 use Rattle.table.specs.Names.{is_filled, knows}
 use Rattle.table.specs.declared.accesses.Access.{Access}
-use Rattle.writing.specs.Marks.{marks_fit}
+use Rattle.cache.specs.declared.useful.Form.{Form}
+use Rattle.cache.specs.declared.useful.Form.TheVariants.{Hex}
+use Rattle.writing.specs.Marks.{marks_fit, useful_fits}
+use Rattle.table_text.specs.TableText.{table_text}
 use Rattle.table.specs.declared.Table.{Table}
 use Rattle.table.specs.Tables.{tasks_of, accesses_of}
 use Rattle.table.specs.Reading.{ended}
 
 -- what line 1 says of a table
 abbrev pub head_of : Table → Head
-head_of table = record { sets = table.sets; brt = table.brt }
+head_of table = record { sets = table.sets; brt = table.brt; form = table.form }
 
--- a task that a line can say in a table of so many cache sets, below these tasks
-unfoldable pub is_next : ℕ → List Task → Task → Bool
-is_next sets above t =
+-- a task that a line can say in a table of this form with so many cache sets, below these tasks
+unfoldable pub is_next : Form → ℕ → List Task → Task → Bool
+is_next form sets above t =
     is_filled t.name
     && (times_in_range (times_of t) && times_in_order (times_of t))
-    && marks_fit sets t.ucb
+    && useful_fits form sets t.ucb
     && marks_fit sets t.ecb
     && not (knows t.name above)
 
 -- each of these tasks is one, below those above it
-unfoldable pub are_next : ℕ → List Task → List Task → Bool
-are_next sets above [] = true
-are_next sets above (t ∷ ts) = is_next sets above t && are_next sets (above ++ (t ∷ [])) ts
+unfoldable pub are_next : Form → ℕ → List Task → List Task → Bool
+are_next form sets above [] = true
+are_next form sets above (t ∷ ts) = is_next form sets above t && are_next form sets (above ++ (t ∷ [])) ts
 
--- an access that a line can say in a table of so many cache sets, below so many tasks
-unfoldable pub is_entered : (sets count : ℕ) → Access → Bool
-is_entered sets count a = is_within 1 250000000 a.lasts.0 && marks_fit sets a.ucb && nat_lt a.task count && nat_le a.ceiling a.task
+-- an access that a line can say in a table of this form with so many cache sets, below so many tasks
+unfoldable pub is_entered : Form → (sets count : ℕ) → Access → Bool
+is_entered form sets count a = is_within 1 250000000 a.lasts.0 && useful_fits form sets a.ucb && nat_lt a.task count && nat_le a.ceiling a.task
 
 -- a place without a task, as the reader leaves it: zeros alone
 unfoldable pub is_vacant : Task → Bool
@@ -45,21 +48,26 @@ is_vacant t =
     && t.deadline.0 == 0
     && t.jitter.0 == 0
     && t.blocking.0 == 0
-    && marks_fit 0 t.ucb
+    && useful_fits Hex 0 t.ucb
     && marks_fit 0 t.ecb
 
 -- a place without an access: zeros alone
 unfoldable pub is_unused : Access → Bool
-is_unused a = a.task == 0 && a.ceiling == 0 && a.lasts.0 == 0 && marks_fit 0 a.ucb
+is_unused a = a.task == 0 && a.ceiling == 0 && a.lasts.0 == 0 && useful_fits Hex 0 a.ucb
 
--- there are at most 32 tasks and 32 accesses, line 1 can say the head, lines below it the tasks and the accesses, the table may end there, and the other places are empty
-unfoldable pub is_readable : Table → Bool
-is_readable table =
+-- there are at most 32 tasks and 32 accesses, line 1 can say the head, lines below it the tasks and the accesses, the table may end there, and the other places
+-- are empty
+unfoldable pub has_lines : Table → Bool
+has_lines table =
     nat_le table.count 32
     && nat_le table.access_count 32
     && head_in_range (head_of table)
     && is_ok (ended table)
-    && are_next table.sets [] (tasks_of table)
-    && list_all (is_entered table.sets table.count) (accesses_of table)
+    && are_next table.form table.sets [] (tasks_of table)
+    && list_all (is_entered table.form table.sets table.count) (accesses_of table)
     && list_all is_vacant (drop table.count table.tasks)
     && list_all is_unused (drop table.access_count table.accesses)
+
+-- and the text is no longer than one that is read
+abbrev pub is_readable : Table → Bool
+is_readable table = has_lines table && nat_le (length (table_text table)) 16384

@@ -4,31 +4,36 @@ ghost use Rattle.std.specs.Prelude.{◌≡◌, ◌↔◌, IsTrue, [], drop};
 ghost use Rattle.std.specs.List.{list_all};
 ghost use Rattle.table.specs.Tables.{tasks_of, accesses_of};
 ghost use Rattle.table_text.specs.Readable.{Whole, Readable};
-ghost use Rattle.table_text.specs.Tests.{head_of, is_next, are_next, is_entered, is_vacant, is_unused, is_readable};
+ghost use Rattle.table_text.specs.Tests.{head_of, is_next, are_next, is_entered, is_vacant, is_unused, has_lines, is_readable};
 
+use crate::extent;
+use cache::useful::Form;
 use table::accesses::Access;
 use table::tasks::{Head, Task, is_known};
 use table::{Table, fields};
-use writing::marks::marks_fit;
+use writing::marks::{marks_fit, useful_fits};
 
-// Whether a line can say a task in a table of so many cache sets, below these tasks.
+// No text that is read is longer.
+const LONGEST: usize = 16384;
+
+// Whether a line can say a task in a table of this form with so many cache sets, below these tasks.
 #[tactic(auto, unfolding(crate::specs::Tests::is_next))]
-fn is_next(sets: u64, above: &[Task], task: &Task) -> bool
-    ensures { result ≡ is_next sets above.now task.now }
+fn is_next(form: Form, sets: u64, above: &[Task], task: &Task) -> bool
+    ensures { result ≡ is_next form sets above.now task.now }
 {
     task.name.is_filled()
         & task.is_timely()
-        & marks_fit(sets, task.ucb)
+        & useful_fits(form, sets, &task.ucb)
         & marks_fit(sets, task.ecb)
         & !is_known(task.name, above)
 }
 
 // Whether lines can say these tasks, each below those above it.
-fn are_next(sets: u64, tasks: &[Task]) -> bool
-    ensures { result ≡ are_next sets [] tasks.now }
+fn are_next(form: Form, sets: u64, tasks: &[Task]) -> bool
+    ensures { result ≡ are_next form sets [] tasks.now }
 {
     for (k, task) in tasks.iter().enumerate() {
-        if !is_next(sets, &tasks[..k], task) {
+        if !is_next(form, sets, &tasks[..k], task) {
             return false;
         }
     }
@@ -37,21 +42,21 @@ fn are_next(sets: u64, tasks: &[Task]) -> bool
 
 // Whether a line can say an access in a table of so many cache sets, below so many tasks.
 #[tactic(auto, unfolding(crate::specs::Tests::is_entered))]
-fn is_entered(sets: u64, count: usize, access: &Access) -> bool
-    ensures { result ≡ is_entered sets count access.now }
+fn is_entered(form: Form, sets: u64, count: usize, access: &Access) -> bool
+    ensures { result ≡ is_entered form sets count access.now }
 {
     fields::is_within(1, 250000000, access.lasts.0)
-        & marks_fit(sets, access.ucb)
+        & useful_fits(form, sets, &access.ucb)
         & (access.task < count)
         & (access.ceiling <= access.task)
 }
 
-fn are_entered(sets: u64, count: usize, accesses: &[Access]) -> bool
-    ensures { result ≡ list_all (is_entered sets count) accesses.now }
+fn are_entered(form: Form, sets: u64, count: usize, accesses: &[Access]) -> bool
+    ensures { result ≡ list_all (is_entered form sets count) accesses.now }
 {
     accesses
         .iter()
-        .all(|access| is_entered(sets, count, access))
+        .all(|access| is_entered(form, sets, count, access))
 }
 
 // Whether a place has no task: a set without marks fits where there is no cache set.
@@ -65,7 +70,7 @@ fn is_vacant(task: &Task) -> bool
         & (task.deadline.0 == 0)
         & (task.jitter.0 == 0)
         & (task.blocking.0 == 0)
-        & marks_fit(0, task.ucb)
+        & useful_fits(Form::Hex, 0, &task.ucb)
         & marks_fit(0, task.ecb)
 }
 
@@ -80,7 +85,10 @@ fn are_vacant(places: &[Task]) -> bool
 fn is_unused(access: &Access) -> bool
     ensures { result ≡ is_unused access.now }
 {
-    (access.task == 0) & (access.ceiling == 0) & (access.lasts.0 == 0) & marks_fit(0, access.ucb)
+    (access.task == 0)
+        & (access.ceiling == 0)
+        & (access.lasts.0 == 0)
+        & useful_fits(Form::Hex, 0, &access.ucb)
 }
 
 fn are_unused(places: &[Access]) -> bool
@@ -89,10 +97,10 @@ fn are_unused(places: &[Access]) -> bool
     places.iter().all(|access| is_unused(access))
 }
 
-// Whether a table passes the tests.
-#[tactic(auto, unfolding(crate::specs::Tests::is_readable))]
-fn passes(table: &Table) -> bool
-    ensures test { result ≡ is_readable table.now }
+// Whether lines can say the table.
+#[tactic(auto, unfolding(crate::specs::Tests::has_lines))]
+fn has_lines(table: &Table) -> bool
+    ensures test { result ≡ has_lines table.now }
     ensures whole { Whole table.now }
 {
     let places = &table.tasks;
@@ -103,11 +111,12 @@ fn passes(table: &Table) -> bool
     let head = Head {
         sets: table.sets,
         brt: table.brt,
+        form: table.form,
     };
     head.in_range()
         && table.check_end().is_ok()
-        && are_next(table.sets, table.tasks())
-        && are_entered(table.sets, table.count, table.accesses())
+        && are_next(table.form, table.sets, table.tasks())
+        && are_entered(table.form, table.sets, table.count, table.accesses())
         && are_vacant(&places[table.count..])
         && are_unused(&access_places[table.access_count..])
 }
@@ -117,5 +126,5 @@ pub fn is_readable(table: &Table) -> bool
     ensures test { result ≡ is_readable table.now }
     ensures meant { IsTrue result ↔ Readable table.now }
 {
-    passes(table)
+    has_lines(table) && extent::length(table) <= LONGEST
 }

@@ -2,7 +2,7 @@
 use Rattle.std.proofs.Common.{ℕ, zero, suc, ◌+◌, ◌-◌, ◌*◌, ◌/◌, ◌%◌, ◌^◌, ◌≤◌, ◌<◌, ◌≡◌, refl, sym, ap, ◌∙◌, subst, Bool, true, false, ◌&&◌, cond, List, [], ◌∷◌, ◌++◌, lt_of_lt_of_le, mod-lt, mod-eq_of_lt, zero-mul, zero-add, arith, leb, ltb, lit<, length, pow-add, pow_mono, pow_pos, shr_lt, ltb-true, ltb-false, lt-ltb, le-leb}
 use Rattle.std.proofs.Math.Arith.{lt-one, digits_lt}
 use Rattle.std.proofs.Math.Bool.{and-eq-true_iff}
-use Rattle.std.proofs.Math.Decide.{dec_le}
+use Rattle.std.proofs.Math.Decide.{dec_le, dec_lt}
 use Rattle.std.proofs.Math.Nat.{div-eq_of_lt, sub-add-eq}
 use Rattle.std.proofs.lemmas.Bool.{lt-leb}
 use Rattle.cache.specs.Hex.{hex_digit, read_hex}
@@ -10,9 +10,9 @@ use Rattle.cache.proofs.HexLaws.{read-lt, read-cut}
 use Rattle.cache.specs.declared.sets.CacheSet.{CacheSet}
 use Rattle.std.specs.Prelude.{Some, None, option_map}
 use Rattle.cache.specs.Field.{read_set}
-use Rattle.cache.specs.Words.{number_of, words_of}
+use Rattle.cache.specs.Words.{number_of, words_of, members}
 use Rattle.cache.proofs.WordLaws.{WordsInRange, words-number}
-use Rattle.cache.proofs.FieldLaws.{says, right-length, one-spelling}
+use Rattle.cache.proofs.FieldLaws.{says, right-length, no-bit, one-spelling}
 use Rattle.writing.specs.Text.{hex_byte, hex_digits}
 use Rattle.writing.specs.Marks.{bits_in, marks_text, marks_fit}
 use Rattle.writing.proofs.Digits.{marks-long}
@@ -100,6 +100,9 @@ fit-range sets c f = record {
   in3 = lt_of_lt_of_le f.in3 (pow_mono (few_bits sets 3));
 }
 
+pub marks-range : (sets : ℕ) (c : CacheSet) → marks_fit sets c ≡ true → WordsInRange c
+marks-range sets c e = fit-range sets c (fit_of sets c e)
+
 -- the bits of each word, as those that are left above the words below it
 module _ (sets : ℕ) where
   bits-w0 : bits_in sets 0 ≡ sets - (sets - 64)
@@ -127,6 +130,14 @@ fit-below sets c few f =
     (rw (bits-w1 sets) at f.in1))
     (rw (bits-w0 sets) at f.in0)
 
+-- so each of its members is one of so many cache sets
+pub marks-below : (sets : ℕ) (c : CacheSet) → sets ≤ 256 → marks_fit sets c ≡ true → (s : ℕ) → members c s ≡ true → s < sets
+unfolding members
+marks-below sets c few e s m = elim (dec_lt s sets) [
+  | yes l ↦ l
+  | no l ↦ absurd (no-bit (number_of c) s (lt_of_lt_of_le (fit-below sets c few (fit_of sets c e)) (pow_mono (omega arith))) m)
+]
+
 below-fit : (sets n : ℕ) → sets ≤ 256 → n < 2 ^ sets → Fit sets (words_of n)
 unfolding words_of
 below-fit sets n few h =
@@ -134,6 +145,9 @@ below-fit sets n few h =
     let b = cut_below (sets - 64) (n / 2 ^ 64) a.0 in
     let c = cut_below (sets - 64 - 64) (n / 2 ^ 64 / 2 ^ 64) b.0 in
     record { in0 = rw (bits-w0 sets) a.1; in1 = rw (bits-w1 sets) b.1; in2 = rw (bits-w2 sets) c.1; in3 = rw (bits-w3 sets few) c.0 }
+
+pub number-fits : (sets n : ℕ) → sets ≤ 256 → n < 2 ^ sets → marks_fit sets (words_of n) ≡ true
+number-fits sets n few h = fit_is sets (words_of n) (below-fit sets n few h)
 
 -- ---- the field and the set
 

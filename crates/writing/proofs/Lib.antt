@@ -3,5 +3,8 @@ pub mod Spelling
 pub mod Room
 pub mod Digits
 pub mod Fitting
+pub mod CountDigits
 pub mod Fields
+pub mod UsefulFields
+pub mod UsefulReads
 pub mod Deliveries

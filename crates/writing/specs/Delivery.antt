@@ -1,5 +1,5 @@
 -- What a writer of a whole text answers, and what the buffer then holds.
-use Rattle.std.specs.Prelude.{ℕ, ◌≡◌, List, ◌++◌, length, drop, Result, Ok, Err, if◌then◌else◌, nat_le}
+use Rattle.std.specs.Prelude.{ℕ, ◌+◌, ◌≡◌, List, ◌++◌, length, take, drop, Result, Ok, Err, if◌then◌else◌, nat_le}
 use Rattle.table.specs.declared.refusals.Reason.TheVariants.{ShortBuffer}
 use Rattle.table.specs.declared.refusals.Refusal.{Refusal}
 use Rattle.table.specs.Numbers.{untold}
@@ -8,6 +8,11 @@ use Rattle.table.specs.Numbers.{untold}
 pub record Put (text before : List ℕ) (end : ℕ) (after : List ℕ) : Type 0 where
   pub length-is : end ≡ length text
   pub buffer-is : after ≡ text ++ drop (length text) before
+
+-- the text from a place on, and before and after it the buffer as it was
+pub record PutAt (text : List ℕ) (at : ℕ) (before : List ℕ) (end : ℕ) (after : List ℕ) : Type 0 where
+  pub end-is : end ≡ at + length text
+  pub buffer-is : after ≡ take at before ++ text ++ drop (at + length text) before
 
 -- the text's length, or the refusal of a buffer that is shorter than the text
 abbrev pub written_of : List ℕ → List ℕ → Result ℕ Refusal

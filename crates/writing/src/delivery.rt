@@ -2,7 +2,7 @@
 
 ghost use Rattle.std.specs.Prelude.{◌≡◌, ◌+◌, ◌≤◌, ◌++◌, length};
 ghost use Rattle.writing.specs.declared.writer.TheConstants.{ROOM};
-ghost use Rattle.writing.specs.Delivery.{Put, Delivered};
+ghost use Rattle.writing.specs.Delivery.{Put, PutAt, Delivered};
 ghost use Rattle.writing.specs.Error.{error_text};
 
 use crate::writer::Draft;
@@ -15,6 +15,16 @@ pub fn put(text: &[u8], out: &mut [u8]) -> usize
 {
     out[..text.len()].copy_from_slice(text);
     text.len()
+}
+
+// A text in its place in a buffer, behind what stands there already: where the next one begins.
+pub fn put_at(text: &[u8], at: usize, out: &mut [u8]) -> usize
+    requires { at + length text.now ≤ length out.old }
+    ensures { PutAt text.now at out.old result out.new }
+{
+    let end = at + text.len();
+    out[at..end].copy_from_slice(text);
+    end
 }
 
 // All of a text, or nothing where the buffer is too short.

@@ -5,8 +5,8 @@ ghost use Rattle.writing.specs.Text.{spelled, hex_byte, hex_digits, after_tab, y
 
 use std::marker::Model;
 
-// The room of a draft: the longest text that there is, that of a table, takes 9,293 bytes.
-pub const ROOM: usize = 9293;
+// The room of a draft: no text that is written at once is longer than the longest report.
+pub const ROOM: usize = 2746;
 
 // A text in the making.
 #[derive(Drop)]
@@ -109,7 +109,7 @@ impl Draft {
 }
 
 // How many decimal digits a number has.
-fn digits_in(n: u64) -> usize
+pub fn digits_in(n: u64) -> usize
     ensures { result ≡ length (spelled n) }
 {
     if n < 10 { 1 } else { 1 + digits_in(n / 10) }

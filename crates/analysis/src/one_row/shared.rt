@@ -29,7 +29,7 @@ fn look_at(table: &Table, k: usize, ecbs: CacheSet, best: Hit, bounds: &mut [Rel
     if !is_ahead(bound, best) {
         return best;
     }
-    let reloads = table.task(k).ucb.intersection(ecbs).size();
+    let reloads = table.task(k).ucb.size_in(ecbs, table.ways());
     bounds[k] = reloads;
     let share = Hit { reloads, victim: k };
     if is_ahead(share, best) { share } else { best }

@@ -118,7 +118,7 @@ fn write_reason_lines(draft: &mut Draft, table: &Table, need: &Need, i: usize, r
     ensures { draft.new ≡ draft.old ++ flat_map (λ j. reason_line (name_at table.now) r (at table.now j) (charge_under table.now need.now.blocker need.now.method i j)) (hp i) }
 {
     let mut row = one_row::charged(table, need.method, i);
-    blocked_row::join(table, need.method, i, need.blocker, &mut row);
+    blocked_row::join(table, need.method, i, &need.blocker, &mut row);
     for j in 0..i {
         let charge = row[j];
         let k = victim_of(charge, j);

@@ -9,8 +9,9 @@ use crate::refusals::Reason;
 use crate::tasks::{Name, Task};
 use crate::text::Fields;
 use crate::{fields, tasks};
-use cache::sets::CacheSet;
 use cache::units::Ticks;
+use cache::useful;
+use cache::useful::{Form, Useful};
 
 // The fields of an access line, behind the first.
 #[derive(Clone, Copy)]
@@ -38,10 +39,10 @@ fn cut(line: &[u8]) -> Option<AccessFields<'_>>
 }
 
 impl Access {
-    // The access that a line says in a table of so many cache sets, below these tasks, or its first refusal.
+    // The access that a line says in a table of this form with so many cache sets, below these tasks, or its first refusal.
     #[tactic(auto, using(std::proofs::lemmas::Bool::Decides::nat_tests), unfolding(crate::specs::AccessLine::access_rows, crate::specs::AccessLine::access_said, crate::specs::Rows::unless_fault))]
-    pub fn read(line: &[u8], sets: u64, tasks: &[Task]) -> Result<Access, Reason>
-        ensures { result ≡ unless_fault (access_rows sets tasks.now line.now) (access_said sets tasks.now line.now) }
+    pub fn read(line: &[u8], form: Form, sets: u64, tasks: &[Task]) -> Result<Access, Reason>
+        ensures { result ≡ unless_fault (access_rows form sets tasks.now line.now) (access_said form sets tasks.now line.now) }
     {
         let fields = cut(line).ok_or(Reason::Shape)?;
         if !(fields::is_name(fields.task) && fields::is_name(fields.ceiling)) {
@@ -51,7 +52,10 @@ impl Access {
         if !fields::is_within(1, 250000000, lasts) {
             return Err(Reason::Range);
         }
-        let ucb = CacheSet::from_field(fields.ucb, sets).ok_or(Reason::Marks)?;
+        let ucb = Useful::from_field(fields.ucb, sets, form).ok_or(Reason::Marks)?;
+        if !useful::is_within(fields.ucb, form) {
+            return Err(Reason::TooManyBlocks);
+        }
         let task = tasks::position_of(Name::of(fields.task), tasks).ok_or(Reason::OtherTask)?;
         let ceiling = tasks::position_of(Name::of(fields.ceiling), tasks).ok_or(Reason::OtherTask)?;
         if task < ceiling {

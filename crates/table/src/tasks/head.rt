@@ -1,19 +1,20 @@
 // Line 1 of a table.
-ghost use Rattle.std.specs.Prelude.{◌≡◌, false, MatchOption};
-ghost use Rattle.table.specs.Fields.{has_shape};
+ghost use Rattle.std.specs.Prelude.{◌≡◌, false, MatchOption, option_map};
 ghost use Rattle.table.specs.Rows.{unless_fault};
-ghost use Rattle.table.specs.HeadLine.{AreHeadFields, head_in_range, head_rows, head_said};
+ghost use Rattle.table.specs.HeadLine.{AreHeadFields, is_head, read_form, head_in_range, head_rows, head_said};
 
 use crate::fields;
 use crate::refusals::Reason;
 use crate::text::Fields;
 use cache::units::Ticks;
+use cache::useful::{Form, Useful};
 
-// The number of cache sets, and the ticks that a block reload takes.
+// The number of cache sets, the ticks that a block reload takes, and how useful blocks are written.
 #[derive(Clone, Copy)]
 pub struct Head {
     pub sets: u64,
     pub brt: Ticks,
+    pub form: Form,
 }
 
 // The fields of line 1, behind the first.
@@ -21,20 +22,42 @@ pub struct Head {
 struct HeadFields<'a> {
     sets: &'a [u8],
     brt: &'a [u8],
+    ways: Option<&'a [u8]>,
 }
 
 fn cut(line: &[u8]) -> Option<HeadFields<'_>>
-    ensures { MatchOption result (has_shape 75 3 line.now ≡ false) (AreHeadFields line.now) }
+    ensures { MatchOption result (is_head line.now ≡ false) (AreHeadFields line.now) }
 {
     let mut fields = Fields::of(line);
     if fields.next()? != b"K".as_slice() {
         return None;
     }
-    let cut = HeadFields {
-        sets: fields.next()?,
-        brt: fields.next()?,
+    let sets = fields.next()?;
+    let brt = fields.next()?;
+    let Some(ways) = fields.next() else {
+        return Some(HeadFields {
+            sets,
+            brt,
+            ways: None,
+        });
     };
-    if fields.is_done() { Some(cut) } else { None }
+    let ways = Some(ways);
+    if fields.is_done() {
+        Some(HeadFields { sets, brt, ways })
+    } else {
+        None
+    }
+}
+
+// How useful blocks are written: as marks, or where the ways are named as digits.
+#[tactic(auto, unfolding(crate::specs::HeadLine::read_form))]
+fn read_form(ways: Option<&[u8]>) -> Option<Form>
+    ensures { result ≡ read_form (option_map (λ w. w.now) ways.entry) }
+{
+    match ways {
+        None => Some(Form::Hex),
+        Some(field) => Some(Form::Digits(fields::read_number(field)?)),
+    }
 }
 
 impl Head {
@@ -46,6 +69,7 @@ impl Head {
         fields::is_within(4, 256, self.sets)
             & (self.sets % 4 == 0)
             & fields::is_within(0, 100000, self.brt.0)
+            & fields::is_within(1, Useful::MOST_WAYS, self.form.ways())
     }
 
     // What line 1 says, or its first refusal.
@@ -56,9 +80,11 @@ impl Head {
         let fields = cut(line).ok_or(Reason::Shape)?;
         let sets = fields::read_number(fields.sets).ok_or(Reason::Number)?;
         let brt = fields::read_number(fields.brt).ok_or(Reason::Number)?;
+        let form = read_form(fields.ways).ok_or(Reason::Number)?;
         let head = Head {
             sets,
             brt: Ticks(brt),
+            form,
         };
         if !head.in_range() {
             return Err(Reason::Range);

@@ -11,6 +11,8 @@ use crate::tasks::name::{Name, is_known};
 use crate::text::Fields;
 use cache::sets::CacheSet;
 use cache::units::Ticks;
+use cache::useful;
+use cache::useful::{Form, Useful};
 
 // The fields of a task line, behind the first.
 #[derive(Clone, Copy)]
@@ -115,10 +117,10 @@ impl Task {
         times.in_range() & times.in_order()
     }
 
-    // The task that a line says in a table of so many cache sets, below the tasks above it, or its first refusal.
+    // The task that a line says in a table of this form with so many cache sets, below the tasks above it, or its first refusal.
     #[tactic(auto, unfolding(crate::specs::TaskLine::task_rows, crate::specs::TaskLine::task_said, crate::specs::TaskLine::read_times, crate::specs::Rows::unless_fault))]
-    pub fn read(line: &[u8], sets: u64, above: &[Task]) -> Result<Task, Reason>
-        ensures { result ≡ unless_fault (task_rows sets above.now line.now) (task_said sets line.now) }
+    pub fn read(line: &[u8], form: Form, sets: u64, above: &[Task]) -> Result<Task, Reason>
+        ensures { result ≡ unless_fault (task_rows form sets above.now line.now) (task_said form sets line.now) }
     {
         let fields = cut(line).ok_or(Reason::Shape)?;
         if !fields::is_name(fields.name) {
@@ -136,8 +138,11 @@ impl Task {
         if !times.in_range() {
             return Err(Reason::Range);
         }
-        let ucb = CacheSet::from_field(fields.ucb, sets).ok_or(Reason::Marks)?;
+        let ucb = Useful::from_field(fields.ucb, sets, form).ok_or(Reason::Marks)?;
         let ecb = CacheSet::from_field(fields.ecb, sets).ok_or(Reason::Marks)?;
+        if !useful::is_within(fields.ucb, form) {
+            return Err(Reason::TooManyBlocks);
+        }
         if !times.in_order() {
             return Err(Reason::Order);
         }

@@ -1,5 +1,5 @@
 // Names of tasks.
-ghost use Rattle.std.specs.Prelude.{◌≡◌, ◌==◌, IsTrue, position};
+ghost use Rattle.std.specs.Prelude.{◌≡◌, ◌≤◌, ◌==◌, IsTrue, length, position};
 ghost use Rattle.table.specs.Fields.{is_name};
 ghost use Rattle.std.specs.Str.{bytes_eq};
 ghost use Rattle.table.specs.Names.{has_name, knows, is_filled};
@@ -39,6 +39,18 @@ impl Name {
         match self.end() {
             Some(end) => &self.bytes[..end],
             None => &self.bytes,
+        }
+    }
+
+    // How many bytes that are.
+    pub fn len(&self) -> usize
+        ensures is { result ≡ length (name_text self.now) }
+        ensures few { result ≤ 12 }
+    {
+        let whole = &self.bytes;
+        match self.end() {
+            Some(end) => end,
+            None => whole.len(),
         }
     }
 

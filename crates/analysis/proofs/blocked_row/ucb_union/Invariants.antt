@@ -1,9 +1,11 @@
--- The loop's invariant: the charges from j on are in the row, and `all` is the union of the UCBs below j.
+-- The loop's invariant: the charges from j on are in the row, and `all` has the useful blocks below j.
 use Rattle.std.proofs.Common.{◌≡◌, ◌+◌}
-use Rattle.cache.specs.Words.{members}
+use Rattle.cache.specs.Counts.{capped}
+use Rattle.cache.specs.Levels.{counts}
+use Rattle.table.specs.Tables.{ways_in}
 use Rattle.search.specs.Positions.{between}
 use Rattle.analysis.specs.declared.costs.Single.TheVariants.{UcbUnion}
-use Rattle.analysis.specs.Gather.{union_of}
+use Rattle.analysis.specs.Gather.{counts_over}
 use Rattle.analysis.specs.Costs.{ucb_of}
 use Rattle.analysis.specs.BlockedRow.{ChargedUnder}
 use Rattle.analysis.proofs.blocked_row.ucb_union.Given as goal
@@ -11,5 +13,6 @@ use Rattle.analysis.proofs.blocked_row.ucb_union.Given as goal
 abbrev pub invariant-loop-j : goal.invariant-loop-j
 invariant-loop-j l = record {
   charged : ChargedUnder l.table l.access UcbUnion l.i l.j l.row;
-  all : members l.all ≡ union_of (ucb_of l.table) (between (l.j + 1) (l.i + 1));
+  all : counts (ways_in l.table) l.all ≡ capped (ways_in l.table) (counts_over (ucb_of l.table) (between (l.j + 1) (l.i + 1)));
+  ways : l.ways ≡ ways_in l.table;
 }

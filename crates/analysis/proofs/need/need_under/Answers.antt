@@ -4,7 +4,7 @@ use Rattle.std.specs.Prelude.{None}
 use Rattle.search.specs.declared.demand.Response.TheVariants.{Within}
 use Rattle.search.specs.Least.{later}
 use Rattle.table.specs.Tables.{at}
-use Rattle.table.specs.Accesses.{plain_access, empty_access}
+use Rattle.table.specs.Accesses.{plain_access, blank_access}
 use Rattle.analysis.specs.Analysis.{least_under}
 use Rattle.analysis.proofs.AnswerLaws.{plain-blocks, access-blocks}
 use Rattle.analysis.specs.Needs.{need_with, larger_of_some}
@@ -29,7 +29,7 @@ loop-n-preserved c =
           (needed-yes a.table.now a.method a.i c.loop-n.n here c.loop-n.invariant (sym c.may_block.ensures ∙ w.if-may_block.true) _
           (w.or_larger.ensures
           ∙ ap (larger_of_some c.loop-n.largest) (rw w.time_of-time.ensures at w.need_while.ensures)
-          ∙ larger-later c.loop-n.largest (λ b. least_under a.table.now b a.method a.i 250000000) a.method (get_or a.table.now.accesses c.loop-n.n empty_access)))
+          ∙ larger-later c.loop-n.largest (λ b. least_under a.table.now b a.method a.i 250000000) a.method (get_or a.table.now.accesses c.loop-n.n blank_access)))
       | else-may_block w ↦ rw w.largest-is
           (needed-no a.table.now a.method a.i c.loop-n.n here c.loop-n.invariant (sym c.may_block.ensures ∙ w.if-may_block.false))
     ]

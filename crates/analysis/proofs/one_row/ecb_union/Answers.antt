@@ -4,7 +4,7 @@ use Rattle.analysis.proofs.EvictedLaws.{evicted-none, evicted-next}
 use Rattle.analysis.proofs.one_row.ecb_union.Goals as goal
 
 pub loop-j-init : goal.loop-j-init
-loop-j-init c = evicted-none c.args.i (omega (arith, c.requires.0.few)) c.requires.2
+loop-j-init c = evicted-none c.args.i (omega (arith, c.requires.0.few)) c.requires.0 c.requires.2
 
 pub loop-j-preserved : goal.loop-j-preserved
 loop-j-preserved c =

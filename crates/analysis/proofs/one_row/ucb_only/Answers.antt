@@ -1,7 +1,7 @@
 -- `one_row::ucb_only` meets its contract.
-use Rattle.std.proofs.Common.{ℕ, ◌≡◌, ◌+◌, ◌-◌, ap, ◌∙◌, arith}
-use Rattle.cache.specs.Sets.{size}
-use Rattle.cache.specs.Words.{members}
+use Rattle.std.proofs.Common.{ℕ, ◌≡◌, ◌+◌, ◌-◌, ap, ap₂, ◌∙◌, arith}
+use Rattle.cache.specs.Counts.{total}
+use Rattle.cache.specs.Levels.{counts}
 use Rattle.search.specs.Positions.{between}
 use Rattle.table.specs.declared.tasks.Task.{Task}
 use Rattle.analysis.specs.declared.costs.Charge.TheVariants.{Victim}
@@ -14,7 +14,7 @@ use Rattle.analysis.proofs.one_row.ucb_only.Goals as goal
 pub loop-j-init : goal.loop-j-init
 loop-j-init c = record {
   charged = charged-none _ c.requires.2;
-  most = c.none-most.ensures ∙ hit-none (λ k. size (ucb_of c.args.table.now k)) (c.args.i + 1);
+  most = c.none-most.ensures ∙ hit-none (λ k. total (ucb_of c.args.table.now k)) (c.args.i + 1);
 }
 
 pub loop-j-preserved : goal.loop-j-preserved
@@ -23,8 +23,8 @@ loop-j-preserved c =
     let a = c.args in
     let j = c.loop-j.j - 1 in
     let last : j + 1 ≡ c.loop-j.j = omega arith in
-    let F : ℕ → ℕ = λ k. size (ucb_of a.table.now k) in
-    let own = c.size-reloads.ensures.count ∙ ap (λ (t : Task). size (members t.ucb)) c.task.ensures in
+    let F : ℕ → ℕ = λ k. total (ucb_of a.table.now k) in
+    let own = c.size-reloads.ensures.count ∙ ap₂ (λ (w : ℕ) (t : Task). total (counts w t.ucb)) c.ways.ensures c.task.ensures in
     let most : c.larger-most.result ≡ largest_from (j + 1) F (between (j + 1) (a.i + 1)) =
     c.larger-most.ensures ∙ hit-front F (j + 1) (a.i + 1) _ _ (omega arith) own (rw (← last) at h.most) in
     record {

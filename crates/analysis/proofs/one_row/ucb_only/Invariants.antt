@@ -1,6 +1,6 @@
 -- `one_row::ucb_only`: the charges from j on are in the row, and `most` is the largest UCB below j.
 use Rattle.std.proofs.Common.{◌≡◌, ◌+◌}
-use Rattle.cache.specs.Sets.{size}
+use Rattle.cache.specs.Counts.{total}
 use Rattle.search.specs.Positions.{between}
 use Rattle.analysis.specs.declared.costs.Single.TheVariants.{UcbOnly}
 use Rattle.analysis.specs.Gather.{largest_from}
@@ -11,5 +11,5 @@ use Rattle.analysis.proofs.one_row.ucb_only.Given as goal
 abbrev pub invariant-loop-j : goal.invariant-loop-j
 invariant-loop-j l = record {
   charged : Charged l.table UcbOnly l.i l.j l.row;
-  most : l.most ≡ largest_from (l.j + 1) (λ k. size (ucb_of l.table k)) (between (l.j + 1) (l.i + 1));
+  most : l.most ≡ largest_from (l.j + 1) (λ k. total (ucb_of l.table k)) (between (l.j + 1) (l.i + 1));
 }

@@ -22,7 +22,7 @@ module _ {table : Table} (accepted : AcceptedTable table) {i : ℕ} (held : i < 
   text_is : need_line task need ++ reason_lines table need.blocker need.method i need.time ≡ explanation_of table method i
   text_is = explanation-is table accepted i held method _ _ t e
 
-  fits : length (need_line task need) + length (reason_lines table need.blocker need.method i need.time) ≤ 1317
+  fits : length (need_line task need) + length (reason_lines table need.blocker need.method i need.time) ≤ 1348
   fits = omega (arith, ap length text_is, length-append {A = ℕ}, explanation-short table accepted i held method)
 
 pub write_need_line-requires-clause-limited : goal.write_need_line-requires-clause-limited

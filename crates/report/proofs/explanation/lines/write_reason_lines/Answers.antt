@@ -3,7 +3,7 @@ use Rattle.std.proofs.Common.{ℕ, List, ◌≡◌, ◌<◌, zero-le, arith, ap,
 use Rattle.search.specs.Positions.{run}
 use Rattle.table.specs.Accesses.{added_by}
 use Rattle.table.specs.declared.Table.{Table}
-use Rattle.table.specs.Tables.{at}
+use Rattle.table.specs.Tables.{ways_in, at}
 use Rattle.analysis.specs.declared.costs.Charge.{Charge}
 use Rattle.analysis.specs.Costs.{ucb_of, ecb_of, charge_under}
 use Rattle.analysis.specs.Row.{charge_in}
@@ -23,7 +23,7 @@ module _ {table : Table} {need : Need} {i : ℕ} (g : Grounds table need i) {row
 
   victim-held : {k : ℕ} → k ≡ victim_in j (charge_in row j) → k < table.count
   victim-held e =
-      let below = victim-below (ucb_of table) (ecb_of table) (added_by need.blocker j) need.blocker.task table.count need.method i j
+      let below = victim-below (ways_in table) (ucb_of table) (ecb_of table) (added_by (ways_in table) need.blocker j) need.blocker.task table.count need.method i j
       above g.held g.blocker.task in
       omega (arith, e ∙ ap (victim_in j) charged)
 

@@ -1,0 +1,8 @@
+-- `useful::Useful::size`: the sum is that of the levels before l.
+use Rattle.std.proofs.Common.{◌≡◌, ◌*◌, ◌≤◌}
+use Rattle.cache.specs.Counts.{total}
+use Rattle.cache.specs.Levels.{heights}
+use Rattle.cache.proofs.useful.Useful.size.Given as goal
+
+abbrev pub invariant-loop-l : goal.invariant-loop-l
+invariant-loop-l l = (l.sum ≡ total (heights l.l l.self.levels)) × (l.sum ≤ 256 * l.l)
