@@ -64,23 +64,23 @@ find_error() {
     fi
 }
 
-for error in 1 2 3 4 5 5b 6 23 24 25 26 27 28 29 30 31 32 33 34 35 36 46 47 48 83 84 85 86 87; do
+for error in 1 2 3 4 5 5b 6 23 24 25 26 27 28 29 30 31 32 33 34 35 36 46 47 83 84 85 86 87; do
     find_error 'valid texts' "$error"
 done
 for error in 7 8 9 10 11 12 13 37 38 39 40 41 53; do
     find_error explanations "$error"
 done
-for error in 42 43 44 45 88 89 90 91 92 93; do
+for error in 42 43 44 45 48 88 89 90 91 92 93 97; do
     find_error 'texts spoiled for a known reason' "$error"
 done
 for error in 14 15 16 17 18 49 94 95; do
     find_error 'tables written again' "$error"
 done
-for error in 19 20 21 50 51 52 96 97; do
+for error in 19 20 21 50 51 52 96; do
     find_error 'table values' "$error"
 done
 find_error 'table values into buffers of every length' 22
-for error in 54 55 56 57 58 59 60 61 62 63 64 65 66 67 68 71 98; do
+for error in 54 55 56 57 58 59 60 61 62 63 64 65 66 67 68 71; do
     find_error growths "$error"
 done
 for error in 69 70 72; do

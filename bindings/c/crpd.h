@@ -2,9 +2,9 @@
  *
  * Every function takes every text, number and buffer, and answers one number. Below 2^32 it is the
  * answer; from 2^32 on it is a refusal, whose number and line the functions at the end take out. The
- * refusals of a text are 1 to 11, 15 to 17 where it has access lines, and 18 where line 1 names the ways;
- * 12 and 13 are those of a method
- * and a position, and 14 that of a buffer. docs/RULES.md says when each is given.
+ * refusals of a text are 1 to 11 and 17, 15 and 16 where it has access lines, and 18 where line 1 names
+ * the ways; 12 and 13 are those of a method and a position, and 14 that of a buffer. docs/RULES.md says
+ * when each is given.
  *
  * No function keeps anything from one call to the next: the answer, and every byte that is written, come
  * from the text, the numbers and the length of the buffer alone. So calls may be made in any order and by

@@ -34,10 +34,10 @@ What they are given:
 A table (fields parted by one tab):
   K  4  1                               cache sets, block reload time; then the
                                         ways, where useful blocks are counted
-  T  a  1  20  20  0  0  0  f           name, C, T, D, J, B, UCB, ECB; the
+  T  a  1  20  20  0  0  0  f           name, C, T, D, J, 0, UCB, ECB; the
   T  b  2  40  40  0  0  3  f           order of the lines is that of priority
   A  b  a  2  3                         an access of b with ceiling a, if there
-                                        is any: length, UCB (then every B is 0)
+                                        is any: length, UCB
   Times are whole ticks; UCB and ECB have a hex digit for four cache sets. Where
   the ways are given, UCB have a count for each cache set, the highest first.
 
@@ -104,7 +104,7 @@ Examples:
 pub const EXPLAIN: &str = "\
 Prints what makes up the answer that crpd answer gives. A line X: the task,
 the method explained, what the task needs whatever its limit is (or beyond),
-its limit, its C, and its B or the length of the access that blocks it. Then a
+its limit, its C, and the length of the access that blocks it, if any. Then a
 line I for each task above it: its name, its activations, the block reloads
 charged for each, and whom they hit (- where the method does not tell). With
 --words it is sentences, and a sum to follow.

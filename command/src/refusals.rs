@@ -96,7 +96,7 @@ fn in_line(lines: &[&[u8]], at: usize, number: u32) -> Option<Finding> {
             "there are more than 32 access lines",
         )),
         17 => {
-            let words = "the blocking is above 0, and the table has accesses";
+            let words = "the blocking is above 0: what blocks a task stands on access lines";
             Some(Finding::at(places.get(table::BLOCKING)?, words))
         }
         _ => None,

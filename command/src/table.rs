@@ -166,7 +166,6 @@ pub struct Task<'a> {
 pub struct Table<'a> {
     pub reload_time: u64,
     pub tasks: Vec<Task<'a>>,
-    pub has_accesses: bool,
 }
 
 /// The table of an accepted text.
@@ -176,7 +175,6 @@ pub fn accepted(text: &[u8]) -> Table<'_> {
     Table {
         reload_time: said(fields(lines[0])[RELOAD_TIME]).unwrap_or(0),
         tasks: tasks.map(|line| task(line)).collect(),
-        has_accesses: lines.iter().any(|line| is_of(line, b"A")),
     }
 }
 

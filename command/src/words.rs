@@ -34,7 +34,7 @@ pub fn of(table: &Table, method: usize, lines: &[u8]) -> String {
         .collect();
     let mut text = opening(&head, method);
     if let Some(need) = head.need {
-        text.push_str(&blocked(&head, table.has_accesses));
+        text.push_str(&blocked(&head));
         above
             .iter()
             .for_each(|task| text.push_str(&task.sentence()));
@@ -113,14 +113,13 @@ fn opening(head: &Head, asked: usize) -> String {
     text
 }
 
-fn blocked(head: &Head, has_accesses: bool) -> String {
-    match (head.blocking, has_accesses) {
-        (0, _) => String::new(),
-        (length, true) => format!(
+fn blocked(head: &Head) -> String {
+    match head.blocking {
+        0 => String::new(),
+        length => format!(
             "It may be blocked for {} by an access of a lower task.\n",
             ticks(length)
         ),
-        (length, false) => format!("It may be blocked for {}.\n", ticks(length)),
     }
 }
 

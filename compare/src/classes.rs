@@ -36,7 +36,7 @@ const OF_TABLE: [OfTable; 8] = [
     }),
 ];
 
-const OF_TASK: [OfTask; 19] = [
+const OF_TASK: [OfTask; 17] = [
     ("name of 1 byte", |task| task.name.len() == 1),
     ("name of 12 bytes", |task| task.name.len() == 12),
     ("name with -", |task| task.name.contains('-')),
@@ -51,8 +51,6 @@ const OF_TASK: [OfTask; 19] = [
     ("J 0", |task| task.jitter == 0),
     ("J = D", |task| task.jitter == task.deadline),
     ("J 250,000,000", |task| task.jitter == 250_000_000),
-    ("B 0", |task| task.blocking == 0),
-    ("B 250,000,000", |task| task.blocking == 250_000_000),
     ("UCB empty", |task| {
         task.useful.iter().all(|count| *count == 0)
     }),

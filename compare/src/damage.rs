@@ -59,7 +59,7 @@ pub struct Spoiled {
 }
 
 pub fn plans() -> Vec<Plan> {
-    let mut plans: Vec<Plan> = (1..=11).chain([18]).map(Plan::Alone).collect();
+    let mut plans: Vec<Plan> = (1..=11).chain([17, 18]).map(Plan::Alone).collect();
     plans.push(Plan::LongAndUnended);
     plans.extend([0, 9, 10].map(Plan::Ways));
     plans.extend([1, 2, 5, 6].map(Plan::FieldsOfFirstLine));
@@ -142,6 +142,7 @@ impl Plan {
             table.tasks.len() >= 3
                 && !(needs_accesses && table.accesses.is_empty())
                 && !(self.needs_counts() && table.form == Form::Hex)
+                && !(matches!(self, Plan::Alone(17)) && !table.accesses.is_empty())
                 && !(self.adds_lines() && table.form != Form::Hex && !many)
         });
         let refusal = match self {
@@ -280,6 +281,7 @@ impl Draft {
                 self.lines.truncate(1);
                 Refusal::new(11, 1)
             }
+            17 => self.block(random),
             _ => {
                 let line = self.any_line(random);
                 self.line(random, line, &[kind])

@@ -157,17 +157,17 @@ pub fn longest_report() -> Vec<u8> {
     text(&spelled)
 }
 
-/// The longest explanation there is in hex, of the last task by method 2 or 4: its C, its B and the
-/// activations have as many digits as numbers that add up to 250,000,000 can have together.
+/// The longest explanation there is in hex, of the last task by method 2 or 4: its C and the activations
+/// have as many digits as numbers that add up to 250,000,000 can have together.
 pub fn longest_explanation() -> Vec<u8> {
     let all = "f".repeat(64);
     let mut spelled = "K 256 0|".to_string();
     for index in 0..31 {
-        let period = if index < 22 { 25 } else { 250 };
+        let period = if index < 23 { 25 } else { 250 };
         let task = format!("T longest-na{index:02} 1 {period} {period} 0 0 {all} {all}|");
         spelled.push_str(&task);
     }
-    let last = format!("T longest-name 11000000 250000000 250000000 0 10000000 {all} {all}|");
+    let last = format!("T longest-name 12000000 250000000 250000000 0 0 {all} {all}|");
     spelled.push_str(&last);
     text(&spelled)
 }
@@ -178,17 +178,16 @@ pub fn longest_table() -> Vec<u8> {
     let (useful, evicting) = ("9".repeat(64), "0123456789abcdef".repeat(4));
     let mut spelled = "K 256 100000|".to_string();
     for index in 0..32 {
-        let times = "250000000 250000000 200000000 100000000 100000000";
+        let times = "250000000 250000000 200000000 100000000 0";
         let task = format!("T longest-na{index:02} {times} {useful} {evicting}|");
         spelled.push_str(&task);
     }
     text(&spelled)
 }
 
-/// The longest accepted text in hex: as many accesses as there may be, which take B from the tasks.
+/// The longest accepted text in hex: as many accesses as there may be.
 pub fn longest_with_accesses() -> Vec<u8> {
-    let tasks = String::from_utf8_lossy(&longest_table()).into_owned();
-    let mut spelled = tasks.replace("\t100000000\t100000000\t", "\t100000000\t0\t");
+    let mut spelled = String::from_utf8_lossy(&longest_table()).into_owned();
     let useful = "fedcba9876543210".repeat(4);
     for index in 0..32 {
         let names = format!("longest-na31 longest-na{index:02}");
@@ -225,8 +224,6 @@ fn responses() -> Vec<Figure> {
     let p_b_6 = P.replace("8 8", "8 6");
     let p_a_jitter = P.replace("5 5 0", "5 5 1");
     let p_both_jitter = p_a_jitter.replace("8 8 0", "8 7 1");
-    let p_blocked = P.replace("8 8 0 0", "8 8 0 1");
-    let p_blocked_7 = P.replace("8 8 0 0", "8 7 0 1");
     let p_no_limit = P.replace("8 8 0", "8 8 8");
     let rows: Vec<(&'static str, &str, Expected)> = vec![
         ("A, c, method 3", A, Response(3, 2, 11)),
@@ -247,8 +244,6 @@ fn responses() -> Vec<Figure> {
         ("P, D of b = 6", &p_b_6, Response(0, 1, 5)),
         ("P, J of a = 1", &p_a_jitter, Response(0, 1, 7)),
         ("P, J 1, D of b = 7", &p_both_jitter, NoResponse(0, 1)),
-        ("P, B of b = 1", &p_blocked, Response(0, 1, 8)),
-        ("P, B of b = 1, D 7", &p_blocked_7, NoResponse(0, 1)),
         ("P, J of b = 8", &p_no_limit, NoResponse(0, 1)),
     ];
     let figures = rows.into_iter().map(|(name, spelled, expected)| Figure {
@@ -303,7 +298,7 @@ fn explanations() -> Vec<Figure> {
     figures.push(Figure {
         name: "the longest explanation in hex",
         text: longest_explanation(),
-        expected: Expected::ExplanationLength(4, 31, 1_317),
+        expected: Expected::ExplanationLength(4, 31, 1_311),
     });
     figures
 }
@@ -322,7 +317,7 @@ fn tables() -> Vec<Figure> {
         comes_back(
             "the longest in hex without accesses",
             longest_table(),
-            6_253,
+            5_997,
         ),
         comes_back("the longest in hex", longest_with_accesses(), 9_293),
     ]
@@ -335,6 +330,8 @@ fn refusals() -> Vec<Figure> {
         expected: Expected::Refused(Refusal::new(number, line)),
     };
     let changed = |from: &str, to: &str| text(&A.replace(from, to));
+    let b_blocked = |times: &str| text(&P.replace("8 8 0 0", times));
+    let both_blocked = P.replace("0 0 0 0", "0 1 0 0");
     let a_longer = [longest_report(), text("T a 1 20 20 0 0 0 f|")].concat();
     vec![
         refused("16,384 bytes", padded(16_384), 3, 5),
@@ -347,5 +344,15 @@ fn refusals() -> Vec<Figure> {
         refused("CR on a task line", changed("3 f", "3 f\r"), 7, 3),
         refused("a 33rd task line", a_longer, 10, 34),
         refused("no task line", text("K 4 1|"), 11, 1),
+        refused("P, B of b = 1", b_blocked("8 8 0 1"), 17, 3),
+        refused("P, B of b = 1, D 7", b_blocked("8 7 0 1"), 17, 3),
+        refused(
+            "P, B of b = 250,000,001",
+            b_blocked("8 8 0 250000001"),
+            6,
+            3,
+        ),
+        refused("P, B of b = 01", b_blocked("8 8 0 01"), 5, 3),
+        refused("P, B of both", text(&both_blocked), 17, 2),
     ]
 }

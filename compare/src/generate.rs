@@ -59,7 +59,6 @@ pub struct Task {
     pub period: u64,
     pub deadline: u64,
     pub jitter: u64,
-    pub blocking: u64,
     /// By cache set.
     pub useful: Vec<usize>,
     pub evicting: Vec<bool>,
@@ -121,13 +120,12 @@ impl Table {
 impl Task {
     fn line(&self, form: Form) -> String {
         format!(
-            "T\t{}\t{}\t{}\t{}\t{}\t{}\t{}\t{}\n",
+            "T\t{}\t{}\t{}\t{}\t{}\t0\t{}\t{}\n",
             self.name,
             self.execution,
             self.period,
             self.deadline,
             self.jitter,
-            self.blocking,
             spelled(&self.useful, form),
             hex(&self.evicting)
         )
@@ -287,11 +285,6 @@ fn with_load(
             6..=8 => random.between(0, deadline / 3),
             _ => random.between(0, deadline),
         };
-        let blocking = if random.chance(30) {
-            random.between(0, period / 5)
-        } else {
-            0
-        };
         let execution = period * load / 1_000 * share / whole;
         Task {
             name,
@@ -299,7 +292,6 @@ fn with_load(
             period: *period,
             deadline,
             jitter,
-            blocking,
             useful: Vec::new(),
             evicting: Vec::new(),
         }

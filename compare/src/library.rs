@@ -81,13 +81,13 @@ mod linked {
 
 /// The writing of any table value, which no text need give.
 ///
-/// A value is a list of 2,821 numbers; what follows in a longer list is not looked at, and of a shorter
+/// A value is a list of 2,789 numbers; what follows in a longer list is not looked at, and of a shorter
 /// one 0 is returned and nothing written. It has, in this order:
 ///
 /// - the number of cache sets, the block reload time, the form and the number of tasks. The form is 0
 ///   where line 1 has three fields, and the number of ways where it has four;
-/// - 32 places of tasks, of 53 numbers each: the 12 bytes of the name, filled up with zeros, then
-///   C, T, D, J and B, then the 32 words of the UCB and the 4 words of the ECB;
+/// - 32 places of tasks, of 52 numbers each: the 12 bytes of the name, filled up with zeros, then
+///   C, T, D and J, then the 32 words of the UCB and the 4 words of the ECB;
 /// - the number of accesses;
 /// - 32 places of accesses, of 35 numbers each: the positions of the task and of the ceiling, the length,
 ///   and the 32 words of the UCB.

@@ -442,7 +442,7 @@ impl Comparison {
     }
 }
 
-/// Tables on which a search from C + B upwards takes longest.
+/// Tables on which a search from C upwards takes longest.
 fn hard_texts(longest: u64) -> Vec<Vec<u8>> {
     let mut tables = vec![
         generate::no_tick_left(1, longest),

@@ -20,8 +20,8 @@ const ACCESSES_MOST: usize = 32;
 const REPORT_MOST: usize = 2_746;
 const METHODS: usize = 6;
 
-/// C, T, D, J and B.
-type Times = [u64; 5];
+/// C, T, D and J.
+type Times = [u64; 4];
 
 /// A refusal's number and line.
 pub type Refused = (u64, u64);
@@ -36,7 +36,6 @@ struct Task {
     period: u64,
     deadline: u64,
     jitter: u64,
-    blocking: u64,
     /// Of a table in hex.
     useful: Words,
     evicting: Words,
@@ -44,7 +43,7 @@ struct Task {
 
 impl Task {
     fn new(name: &[u8], times: Times, useful: Words, evicting: Words) -> Task {
-        let [execution, period, deadline, jitter, blocking] = times;
+        let [execution, period, deadline, jitter] = times;
         let mut padded = [0; 12];
         padded[..name.len()].copy_from_slice(name);
         Task {
@@ -54,7 +53,6 @@ impl Task {
             period,
             deadline,
             jitter,
-            blocking,
             useful,
             evicting,
         }
@@ -105,14 +103,6 @@ impl Table {
 
     fn position(&self, name: &[u8]) -> Option<usize> {
         self.tasks.iter().position(|task| task.name() == name)
-    }
-
-    /// The first task with a B that its accesses leave no room for.
-    fn blocked_twice(&self) -> Option<usize> {
-        if self.accesses.is_empty() {
-            return None;
-        }
-        self.tasks.iter().position(|task| task.blocking != 0)
     }
 }
 
@@ -246,7 +236,7 @@ fn combined(one: u64, other: u64) -> u64 {
 }
 
 /// The response of `i` by one of the methods 0 to 4, 0 for none: the largest over the accesses that
-/// may block it, or the one with its B. Method 0 leaves its responses as starts for the others.
+/// may block it, or the plain one. Method 0 leaves its responses as starts for the others.
 fn respond(
     table: &Table,
     blocks: &impl Blocks,
@@ -283,7 +273,7 @@ fn respond(
     }
     match largest {
         Some(response) => response,
-        None => search_from(task.execution + task.blocking, &reloads, &mut starts[0]),
+        None => search_from(task.execution, &reloads, &mut starts[0]),
     }
 }
 
@@ -298,7 +288,7 @@ fn costs(table: &Table, i: usize, reloads: &[u32; TASKS_MOST]) -> [u64; TASKS_MO
 }
 
 /// The least number up to `limit` that equals its demand, 0 for none. `own` is what the task itself
-/// and its blocking take; `start` is not above the number.
+/// and what blocks it take; `start` is not above the number.
 fn search(
     table: &Table,
     i: usize,

@@ -6,8 +6,8 @@ mod counts;
 
 use crate::model::value::{
     access_at, at, is_marked, kind_of, level_of, Kind, Value, ACCESS_COUNT, ACCESS_LENGTH,
-    ACCESS_PLACE, ACCESS_USEFUL, BLOCKING, COUNT, DEADLINE, EVICTING, EXECUTION, FORM, JITTER,
-    LEVELS, NAME, PERIOD, PLACE, RELOAD_TIME, SETS, USEFUL, WORDS,
+    ACCESS_PLACE, ACCESS_USEFUL, COUNT, DEADLINE, EVICTING, EXECUTION, FORM, JITTER, LEVELS, NAME,
+    PERIOD, PLACE, RELOAD_TIME, SETS, USEFUL, WORDS,
 };
 use crate::model::{ACCESSES_MOST, TASKS_MOST};
 use crate::random::Random;
@@ -208,7 +208,7 @@ fn other_number(random: &mut Random, old: u64) -> u64 {
 
 type Manner = fn(&mut Random, &mut Value);
 
-const MANNERS: [Manner; 25] = [
+const MANNERS: [Manner; 26] = [
     exchange_tasks,
     turn_tasks_round,
     copy_name,
@@ -226,6 +226,7 @@ const MANNERS: [Manner; 25] = [
     move_number_of_sets,
     take_as_few_sets_as_marked,
     take_too_few_sets,
+    mark_too_high,
     mark_too_high,
     add_task,
     fill_up,
@@ -362,7 +363,6 @@ fn take_ends_of_ranges(random: &mut Random, value: &mut Value) {
     place[PERIOD] = *random.pick(&[1, most]);
     place[DEADLINE] = *random.pick(&[1, place[PERIOD]]);
     place[JITTER] = *random.pick(&[0, place[DEADLINE]]);
-    place[BLOCKING] = *random.pick(&[0, most]);
 }
 
 fn pass_ends_of_ranges(random: &mut Random, value: &mut Value) {
@@ -372,7 +372,7 @@ fn pass_ends_of_ranges(random: &mut Random, value: &mut Value) {
     if random.chance(20) {
         value.numbers[RELOAD_TIME] = 100_001;
     } else if random.chance(40) {
-        place[*random.pick(&[EXECUTION, BLOCKING])] = past;
+        place[EXECUTION] = past;
     } else {
         place[PERIOD] = past;
         place[DEADLINE] = *random.pick(&[place[DEADLINE], 250_000_000, past]);
@@ -382,10 +382,11 @@ fn pass_ends_of_ranges(random: &mut Random, value: &mut Value) {
 
 /// Gives an execution time a digit more, as long as it stays in its range.
 fn add_digit(random: &mut Random, value: &mut Value) {
-    let task = any_task(random, value);
-    let execution = &mut value.place_mut(task)[EXECUTION];
-    if *execution <= 25_000_000 {
-        *execution *= 10;
+    let has_room = |task: &usize| value.place(*task)[EXECUTION] <= 25_000_000;
+    let tasks: Vec<usize> = (0..value.taken()).filter(has_room).collect();
+    if !tasks.is_empty() {
+        let task = *random.pick(&tasks);
+        value.place_mut(task)[EXECUTION] *= 10;
     }
 }
 
@@ -421,7 +422,9 @@ fn mark_too_high(random: &mut Random, value: &mut Value) {
         let set = *random.pick(&[sets, any, 255]);
         let task = any_task(random, value);
         let levels = USEFUL.start + WORDS * random.below(LEVELS)..USEFUL.end;
-        let words = random.pick(&[USEFUL, USEFUL, levels, EVICTING]).clone();
+        let words = random
+            .pick(&[USEFUL, USEFUL, levels, EVICTING, EVICTING])
+            .clone();
         value.place_mut(task)[words][(set / 64) as usize] |= 1 << (set % 64);
     }
 }

@@ -147,11 +147,12 @@ def between_fields():
     yield other_field(15, 4, 2, "no task has the name of the ceiling", "c")
     yield other_line(15, 4, "no task has the name of the task", "A\tc\td\t2\t03", 1)
     yield other_line(15, 4, "the ceiling is below the task", "A\ta\tb\t2\t03", 2)
-    blocking = "the blocking is above 0, and the table has accesses"
+    blocking = "the blocking is above 0: what blocks a task stands on access lines"
     yield other_field(17, 2, 6, blocking, "3")
     yield other_field(17, 3, 6, blocking, "250000000")
     both = [*TABLE[:2], "T\tb\t2\t40\t40\t0\t4\t03\tff", TABLE[3]]
     yield other_field(17, 2, 6, blocking, "1", both)
+    yield other_field(17, 3, 6, blocking, "1", TABLE[:3])
 
 
 def too_many():

@@ -13,15 +13,14 @@ fn of(call: impl FnOnce()) -> u64 {
     turns() - before
 }
 
-// The table with so many accesses of its last task, which the first may have to wait for, in place of B.
+// The table with so many accesses of its last task, which the first may have to wait for.
 fn with_accesses(text: &str, lengths: impl Iterator<Item = u64>) -> String {
     let mut last = "";
     let mut table = String::new();
     for line in text.lines() {
-        let mut fields: Vec<&str> = line.split('\t').collect();
+        let fields: Vec<&str> = line.split('\t').collect();
         if fields[0] == "T" {
             last = fields[1];
-            fields[6] = "0";
         }
         table += &fields.join("\t");
         table.push('\n');

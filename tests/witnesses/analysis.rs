@@ -4,7 +4,7 @@ use crate::costs::{term, Charge, Hit, Single};
 use crate::{blocked_row, need, one_row, respond, rows, Method};
 use cache::units::{Reloads, Ticks};
 use search::demand::Response;
-use table::accesses::{plain_access, Access};
+use table::accesses::Access;
 use table::Table;
 use ::{cache, table};
 
@@ -39,13 +39,13 @@ fn method(args: &mut Args) -> Method {
     }
 }
 
-// The access at a place, or the task's B where there is none there.
-fn access(table: &Table, i: usize, args: &mut Args) -> Access {
+// The access at a place, or one that takes no time where there is none there.
+fn access(table: &Table, args: &mut Args) -> Access {
     let n = args.size();
     if n < table.access_count {
         table.accesses[n]
     } else {
-        plain_access(&table.tasks[i])
+        Access::NONE
     }
 }
 
@@ -118,7 +118,7 @@ fn answer(name: &str, args: &mut Args) -> String {
             let table = tables::read(args);
             let (method, i) = (single(args), args.size());
             let mut row = one_row::charged(&table, method, i);
-            let access = access(&table, i, args);
+            let access = access(&table, args);
             blocked_row::join(&table, method, i, &access, &mut row);
             show(&row[..i])
         }
@@ -126,7 +126,7 @@ fn answer(name: &str, args: &mut Args) -> String {
             let table = tables::read(args);
             let (method, i) = (single(args), args.size());
             let mut row = one_row::charged(&table, method, i);
-            let access = access(&table, i, args);
+            let access = access(&table, args);
             blocked_row::join(&table, method, i, &access, &mut row);
             show(&blocked_row::terms(&table, i, &row)[..i])
         }
@@ -134,7 +134,7 @@ fn answer(name: &str, args: &mut Args) -> String {
             let table = tables::read(args);
             let (method, i, limit) = (single(args), args.size(), args.number());
             let row = one_row::charged(&table, method, i);
-            let access = access(&table, i, args);
+            let access = access(&table, args);
             show(crate::later_under(
                 &table,
                 method,
@@ -155,7 +155,7 @@ fn answer(name: &str, args: &mut Args) -> String {
             let table = tables::read(args);
             let i = args.size();
             let (ledger, mut terms) = carried(&table, i);
-            let access = access(&table, i, args);
+            let access = access(&table, args);
             weigh_access(&table, i, &ledger, &access, &mut terms);
             shown(&terms, i)
         }

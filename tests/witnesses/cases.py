@@ -39,19 +39,18 @@ def access(k, c, lasts, ucb, sets):
 
 
 def table(draw, n=None, light=True):
-    """A text that is accepted, of n tasks; with accesses, or blocking, or neither."""
+    """A text that is accepted, of n tasks; with accesses, or without."""
     sets = draw.choice([4, 4, 8, 8, 64, 128, 256])
     n = n or draw.randint(1, 6)
-    kind = draw.choice(["none", "blocking", "accesses", "accesses"])
+    has_accesses = draw.choice([False, True])
     lines = [head(sets, draw.choice([0, 1, 1, 2, 3]))]
     for k in range(n):
         period = draw.randint(8, 40) * (k + 1) * (2 if light else 1)
         deadline = draw.choice([period, draw.randint(max(1, period // 2), period)])
         work = draw.randint(1, max(1, period // (n + draw.randint(0, 3))))
         jitter = draw.choice([0, 0, draw.randint(0, deadline // 3)])
-        blocking = draw.choice([0, draw.randint(0, 9)]) if kind == "blocking" else 0
-        lines.append(task(k, work, period, deadline, jitter, blocking, mask(draw, sets), mask(draw, sets), sets))
-    if kind == "accesses":
+        lines.append(task(k, work, period, deadline, jitter, 0, mask(draw, sets), mask(draw, sets), sets))
+    if has_accesses:
         for _ in range(draw.randint(1, 4)):
             k = draw.randrange(n)
             lines.append(access(k, draw.randint(0, k), draw.randint(1, 9), mask(draw, sets), sets))
@@ -210,8 +209,6 @@ def of_table():
         if n:
             found += ["tasks %s -" % text(many_tasks(n)), "accesses %s -" % text(many_accesses(n))] + ["task %s - %d" % (text(many_tasks(n)), k) for k in {0, n // 2, n - 1}]
     found += ["accesses %s -" % text(THREE), "tasks %s count=0" % text(THREE), "accesses %s access_count=2" % text(THREE), "tasks %s count=2" % text(THREE), "tasks %s count=33" % text(THREE), "tasks %s count=40" % text(THREE), "accesses %s access_count=40" % text(THREE), "accesses %s access_count=31" % text(THREE), "tasks %s count=31" % text(THREE)]
-    for change in ["-", "count=0", "access_count=1", "t0.blocking=1", "t1.blocking=1", "t2.blocking=9;t1.blocking=1", "t0.blocking=1;access_count=1", "t1.blocking=1;access_count=1", "t2.blocking=9;t1.blocking=1;access_count=2", "count=0;access_count=1", "t2.blocking=1;access_count=32", "t3.blocking=1;access_count=1"]:
-        found.append("check_end %s %s" % (text(THREE), change))
     for line in ["", "\n", "a", "a\n", "a\nb", "a\nb\n", "\n\n", "a\n\nb", "a\r\nb\r\n", "\na", "a\tb\n", "ab\ncd\nef", "a\rb"]:
         found += ["next_line %s" % text(line), "lines %s" % text(line)]
     for line in ["", "\t", "a", "a\t", "\ta", "a\tb", "ab\tcd\tef", "a\t\tb", "abc\td", "abcd\te", "abcde\tf", "abcdefg\th", "abcdefgh\ti", "abcdefgh", "abcdefghi\tj\tk", "\t\t\t\t", "a\t\t\t\tb", "aaaaaaaaaaaaaaaaaaaaaaa\tb", "a b", "T\ta\t1\t20\t20\t0\t0\t0\tf"]:
@@ -234,7 +231,6 @@ def of_table():
     found += ["%s %d" % (it, k) for it in ("number", "untold") for k in range(18)]
     found += ["ways %s form=%d" % (text(THREE), ways) for ways in (0, 1, 2, 8)]
     found += ["may_block %d %d %d" % (t, c, i) for t in range(4) for c in range(4) for i in range(4)]
-    found += ["plain_access %s %s %d" % (text(THREE), change, k) for change in ("-", "t0.blocking=5;t1.blocking=7;t2.blocking=9") for k in range(3)]
     found += ["head %s" % text(it) for it in heads()] + ["head_in_range %d %d 0" % (sets, brt) for sets in (0, 1, 2, 3, 4, 5, 6, 8, 252, 254, 255, 256, 257, 260, 512) for brt in (0, 1, 99999, 100000, 100001)]
     found += ["head_in_range 4 1 %d" % ways for ways in (1, 2, 7, 8, 9, 10)]
     found += ["task_line %s 0 4 %s -" % (text(it), text(head(4, 1) + "T\tzz\t1\t20\t20\t0\t0\t0\tf\n")) for it in lines()] + ["task_line %s 0 4 %s -" % (text(it), text(THREE)) for it in lines()[::7]]
@@ -243,7 +239,7 @@ def of_table():
         for times in ("1\t20\t20\t0\t0", "1\t20\t21\t0\t0", "1\t20\t20\t21\t0"):
             found.append("task_line %s 2 4 %s -" % (text("T\tz\t%s\t%s\tf" % (times, ucb)), text(THREE)))
         found += ["access_line %s 2 4 %s -" % (text("A\t%s\t5\t%s" % (names, ucb)), text(THREE)) for names in ("c\ta", "c\td", "a\tc", "d\ta")]
-    for field, values in {"work": (0, 1, 250000000, 250000001), "period": (0, 19, 20, 21, 250000000, 250000001), "deadline": (0, 1, 19, 20, 21, 250000000, 250000001), "jitter": (0, 1, 19, 20, 21, 250000001), "blocking": (0, 1, 250000000, 250000001)}.items():
+    for field, values in {"work": (0, 1, 250000000, 250000001), "period": (0, 19, 20, 21, 250000000, 250000001), "deadline": (0, 1, 19, 20, 21, 250000000, 250000001), "jitter": (0, 1, 19, 20, 21, 250000001)}.items():
         found += ["is_timely %s t0.%s=%d 0" % (text(THREE), field, n) for n in values]
     found += ["is_timely %s t0.period=250000001;t0.deadline=250000001;t0.jitter=%d 0" % (text(THREE), n) for n in (0, 250000001)]
     return found
@@ -369,9 +365,9 @@ def of_report():
     return [it for it in found if it != "verdict_line -"] + ["verdict_line -"]
 
 
-CHANGES = ["-", "sets=0", "sets=2", "sets=6", "sets=8", "sets=256", "sets=260", "sets=257", "brt=0", "brt=100000", "brt=100001", "count=0", "count=1", "count=2", "count=4", "count=33", "count=18446744073709551615", "access_count=1", "access_count=33", "access_count=18446744073709551615", "t0.name=65", "t0.name=0", "t0.name=97:0:98", "t0.name=98", "t1.name=99", "t2.name=97", "t0.name=97:97:97:97:97:97:97:97:97:97:97:97", "t0.work=0", "t0.work=250000000", "t0.work=250000001", "t2.work=0", "t0.period=0", "t0.period=19", "t0.period=250000001", "t0.deadline=0", "t0.deadline=21", "t0.jitter=20", "t0.jitter=21", "t1.jitter=250000001", "t0.blocking=250000000", "t0.blocking=250000001", "t1.blocking=5", "t0.ucb=16:0:0:0", "t0.ucb=15:0:0:0", "t0.ucb=0:1:0:0", "t0.ecb=16:0:0:0", "t0.ecb=0:0:1:0", "t1.ecb=0:0:0:1", "t3.name=97", "t3.work=1", "t3.period=1", "t3.deadline=1", "t3.jitter=1", "t3.blocking=1", "t3.ucb=1:0:0:0", "t3.ecb=1:0:0:0", "t3.ucb=0:0:0:1", "t31.work=1", "t31.ecb=1:0:0:0", "t31.name=0:0:0:0:0:0:0:0:0:0:0:1", "a0.task=1", "a0.ceiling=1", "a0.lasts=1", "a0.ucb=1:0:0:0", "a31.lasts=1", "a31.task=1", "a1.lasts=1", "a1.task=1", "a1.ceiling=1", "a1.ucb=1:0:0:0"]
+CHANGES = ["-", "sets=0", "sets=2", "sets=6", "sets=8", "sets=256", "sets=260", "sets=257", "brt=0", "brt=100000", "brt=100001", "count=0", "count=1", "count=2", "count=4", "count=33", "count=18446744073709551615", "access_count=1", "access_count=33", "access_count=18446744073709551615", "t0.name=65", "t0.name=0", "t0.name=97:0:98", "t0.name=98", "t1.name=99", "t2.name=97", "t0.name=97:97:97:97:97:97:97:97:97:97:97:97", "t0.work=0", "t0.work=250000000", "t0.work=250000001", "t2.work=0", "t0.period=0", "t0.period=19", "t0.period=250000001", "t0.deadline=0", "t0.deadline=21", "t0.jitter=20", "t0.jitter=21", "t1.jitter=250000001", "t0.ucb=16:0:0:0", "t0.ucb=15:0:0:0", "t0.ucb=0:1:0:0", "t0.ecb=16:0:0:0", "t0.ecb=0:0:1:0", "t1.ecb=0:0:0:1", "t3.name=97", "t3.work=1", "t3.period=1", "t3.deadline=1", "t3.jitter=1", "t3.ucb=1:0:0:0", "t3.ecb=1:0:0:0", "t3.ucb=0:0:0:1", "t31.work=1", "t31.ecb=1:0:0:0", "t31.name=0:0:0:0:0:0:0:0:0:0:0:1", "a0.task=1", "a0.ceiling=1", "a0.lasts=1", "a0.ucb=1:0:0:0", "a31.lasts=1", "a31.task=1", "a1.lasts=1", "a1.task=1", "a1.ceiling=1", "a1.ucb=1:0:0:0"]
 ONE = "access_count=1;a0.task=2;a0.ceiling=1;a0.lasts=5;a0.ucb=3:0:0:0"
-CHANGES += [ONE, *("%s;%s" % (ONE, it) for it in ("a0.task=3", "a0.task=1", "a0.task=0", "a0.ceiling=2", "a0.ceiling=3", "a0.ceiling=0", "a0.lasts=0", "a0.lasts=250000000", "a0.lasts=250000001", "a0.ucb=16:0:0:0", "a0.ucb=0:0:0:1", "t1.blocking=1", "t2.blocking=1", "a1.lasts=1", "a1.task=1", "a1.ucb=1:0:0:0", "count=2", "access_count=2"))]
+CHANGES += [ONE, *("%s;%s" % (ONE, it) for it in ("a0.task=3", "a0.task=1", "a0.task=0", "a0.ceiling=2", "a0.ceiling=3", "a0.ceiling=0", "a0.lasts=0", "a0.lasts=250000000", "a0.lasts=250000001", "a0.ucb=16:0:0:0", "a0.ucb=0:0:0:1", "a1.lasts=1", "a1.task=1", "a1.ucb=1:0:0:0", "count=2", "access_count=2"))]
 
 
 COUNTED = "K\t4\t1\t2\nT\ta\t1\t20\t20\t0\t0\t0012\tf\nT\tb\t2\t40\t40\t0\t0\t2100\tf\nA\tb\ta\t5\t0201\n"
@@ -500,14 +496,15 @@ def of_parts():
 
 
 def of_values():
-    found, draw = ["test_write %d - %d" % (n, size) for n in (0, 1, 1027, 1028, 1029) for size in (0, 100)], random.Random(16)
-    sets = 4
-    task = lambda k, name, numbers: {3 + 25 * k: name, **{3 + 25 * k + 12 + n: value for n, value in enumerate(numbers)}}
-    good = {0: 256, 1: 1, 2: 2, **task(0, 97, [1, 20, 20, 0, 0, 1, 2, 3, 4, 5, 6, 7, 8]), **task(1, 98, [2, 40, 30, 1, 0, 9, 10, 11, 12, 13, 14, 15, 16])}
-    with_access = {**good, 803: 1, 804: 1, 805: 0, 806: 5, 807: 1, 808: 2, 809: 3, 810: 4}
-    every = [good, with_access] + [{**it, place: value} for it in (good, with_access) for place in (*range(0, 60), *range(800, 820), 1027) for value in (0, 1, 3, 99, 256 + 99, 2**32, 2**64 - 1)]
+    found = ["test_write %d - %d" % (n, size) for n in (0, 1, 2788, 2789, 2790) for size in (0, 100)]
+    task = lambda k, name, times, ucb, ecb: {4 + 52 * k + place: value for place, value in enumerate([name, *[0] * 11, *times, *ucb, *[0] * 28, *ecb])}
+    good = {0: 256, 1: 1, 2: 0, 3: 2, **task(0, 97, [1, 20, 20, 0], [1, 2, 3, 4], [5, 6, 7, 8]), **task(1, 98, [2, 40, 30, 1], [9, 10, 11, 12], [13, 14, 15, 16])}
+    with_access = {**good, 1668: 1, 1669: 1, 1670: 0, 1671: 5, 1672: 1, 1673: 2, 1674: 3, 1675: 4}
+    places = (*range(0, 60), *range(1664, 1690), 2788)
+    every = [good, with_access] + [{**it, place: value} for it in (good, with_access) for place in places for value in (0, 1, 3, 99, 256 + 99, 2**32, 2**64 - 1)]
     for it in every:
-        found += ["test_write %d %s %d" % (size, ";".join("%d=%d" % pair for pair in sorted(it.items())), 1000) for size in (1028, 1029)]
+        changes = ";".join("%d=%d" % pair for pair in sorted(it.items()) if pair[1])
+        found += ["test_write %d %s %d" % (size, changes, 1000) for size in (2789, 2790)]
     return found
 
 

@@ -1,6 +1,6 @@
 // What the public functions of `table` answer.
 use crate as table;
-use crate::accesses::{plain_access, Access};
+use crate::accesses::Access;
 use crate::fields::{is_name, is_within, read_number, same_bytes};
 use crate::refusals::{Reason, Refusal};
 use crate::tasks::{is_known, position_of, Head, Name, Task};
@@ -65,7 +65,6 @@ fn answer(name: &str, args: &mut Args) -> String {
         "tasks" => show(tables::changed(args).tasks()),
         "task" => show(tables::changed(args).task(args.size())),
         "accesses" => show(tables::changed(args).accesses()),
-        "check_end" => show(tables::changed(args).check_end()),
         "next_line" => {
             let whole = args.bytes();
             let (line, below) = next_line(&whole);
@@ -104,7 +103,6 @@ fn answer(name: &str, args: &mut Args) -> String {
             };
             show(access.may_block(args.size()))
         }
-        "plain_access" => show(plain_access(tables::changed(args).task(args.size()))),
         "head" => show(Head::read(&args.bytes())),
         "head_in_range" => show(
             Head {

@@ -63,7 +63,6 @@ pub fn changed(args: &mut Args) -> Table {
                         "period" => task.period = Ticks(number(value)),
                         "deadline" => task.deadline = Ticks(number(value)),
                         "jitter" => task.jitter = Ticks(number(value)),
-                        "blocking" => task.blocking = Ticks(number(value)),
                         "ucb" => task.ucb = useful(value),
                         "ecb" => task.ecb = set(value),
                         _ => panic!("a field of a task"),
@@ -105,15 +104,9 @@ pub fn shown(table: &Table) -> String {
 }
 
 fn is_empty(task: &Task) -> bool {
-    let none = [
-        task.work,
-        task.period,
-        task.deadline,
-        task.jitter,
-        task.blocking,
-    ]
-    .iter()
-    .all(|it| it.0 == 0);
+    let none = [task.work, task.period, task.deadline, task.jitter]
+        .iter()
+        .all(|it| it.0 == 0);
     none && task.name.bytes == [0; 12] && task.ucb.size(8).0 == 0 && no_words(task.ecb)
 }
 

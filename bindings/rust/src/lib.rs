@@ -38,9 +38,9 @@ extern "C" {
     fn crpd_print(text: *const u8, text_len: usize, out: *mut u8, out_len: usize) -> u64;
 }
 
-/// A refusal's number, and the line that it tells (0 where it tells none). Those of a text are 1 to 11,
-/// and 15 to 17 where it has access lines; 12 and 13 are those of a method and a position, and 14 that of
-/// a buffer. docs/RULES.md says when each is given.
+/// A refusal's number, and the line that it tells (0 where it tells none). Those of a text are 1 to 11
+/// and 17, 15 and 16 where it has access lines, and 18 where it names the ways; 12 and 13 are those of a
+/// method and a position, and 14 that of a buffer. docs/RULES.md says when each is given.
 #[derive(Clone, Copy, Debug, PartialEq, Eq)]
 pub struct Refusal {
     pub number: u32,

@@ -6,7 +6,7 @@ use super::reasons::{
 use super::Names;
 use crate::model::value::{
     access_field_name, Value, ACCESS_CEILING, ACCESS_LENGTH, ACCESS_PLACE, ACCESS_TASK,
-    ACCESS_USEFUL, BLOCKING,
+    ACCESS_USEFUL,
 };
 use crate::model::ACCESSES_MOST;
 
@@ -16,11 +16,9 @@ const COUNT: &str = "accesses";
 const MARKS: &str = "an access's UCB";
 const ONE_BELOW: &str = "a ceiling one below its task";
 const FAR_BELOW: &str = "a ceiling further below its task";
-const FIRST_BLOCKED: &str = "B beside accesses, of the first task";
-const OTHER_BLOCKED: &str = "B beside accesses, of another task";
 
 pub fn all() -> Names {
-    let once = [ONE_BELOW, FAR_BELOW, FIRST_BLOCKED, OTHER_BLOCKED];
+    let once = [ONE_BELOW, FAR_BELOW];
     let mut reasons: Names = once.into_iter().map(str::to_string).collect();
     reasons.extend(all_of_range(COUNT, 0));
     for (field, least) in [(ACCESS_TASK, 0), (ACCESS_CEILING, 0), (ACCESS_LENGTH, 1)] {
@@ -45,9 +43,6 @@ pub fn reasons(value: &Value) -> Names {
     let taken = value.accesses_taken();
     let past_end = of_places_past_end(value.access_places(), taken, access_field_name);
     reasons.extend(past_end);
-    if taken > 0 {
-        reasons.extend(of_blocking(value));
-    }
     reasons
 }
 
@@ -70,15 +65,4 @@ fn of_access(access: &[u64], value: &Value) -> Names {
     reasons.extend(of_range(&name, length, 1, TIME_MOST));
     reasons.extend(of_levels(MARKS, &access[ACCESS_USEFUL], value));
     reasons
-}
-
-/// A B that is out of its range has this held against it and nothing else.
-fn of_blocking(value: &Value) -> Option<String> {
-    let mut tasks = value.places().take(value.taken());
-    let blocked = tasks.position(|task| (1..=TIME_MOST).contains(&task[BLOCKING]));
-    let reason = blocked.map(|task| match task {
-        0 => FIRST_BLOCKED,
-        _ => OTHER_BLOCKED,
-    });
-    reason.map(str::to_string)
 }

@@ -49,7 +49,7 @@ const OF_EXPLANATION: [OfExplanation; 18] = [
     ("needs 250,000,001", |task| {
         own(task) == FIGURE_MOST + 1 && task.position == 0
     }),
-    ("beyond, but C + B is not", |task| {
+    ("beyond, but C and what blocks are not", |task| {
         own(task) <= FIGURE_MOST && task.figure.is_none()
     }),
     ("beyond by method 0", |task| is_beyond_by(0, task)),

@@ -68,7 +68,7 @@ impl Next<'_> {
     }
 }
 
-const OF_NEXT: [OfNext; 13] = [
+const OF_NEXT: [OfNext; 12] = [
     ("the next is refused", |next| {
         next.growing.refusal(next.k).is_some()
     }),
@@ -92,14 +92,6 @@ const OF_NEXT: [OfNext; 13] = [
     ("the next would pass without accesses", |next| {
         let has_accesses = !next.table.accesses.is_empty();
         has_accesses && next.passes_after(|lines| lines.retain(|line| line[0] != b"A"))
-    }),
-    ("the next would pass without B", |next| {
-        let has_blocking = next.table.tasks.iter().any(|task| task.blocking > 0);
-        has_blocking
-            && next.passes_after(|lines| {
-                let tasks = lines.iter_mut().filter(|line| line[0] == b"T");
-                tasks.for_each(|task| task[6] = b"0".to_vec());
-            })
     }),
     ("the next would pass without reloads", |next| {
         next.growing.passes(0, next.k)

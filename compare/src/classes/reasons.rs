@@ -2,8 +2,8 @@
 
 use super::{access_reasons, Names};
 use crate::model::value::{
-    field_name, is_marked, Value, ACCESS_CEILING, ACCESS_LENGTH, ACCESS_TASK, BLOCKING, DEADLINE,
-    EVICTING, EXECUTION, JITTER, NAME, PERIOD, PLACE, USEFUL, WORDS,
+    field_name, is_marked, Value, ACCESS_CEILING, ACCESS_LENGTH, ACCESS_TASK, DEADLINE, EVICTING,
+    EXECUTION, JITTER, NAME, PERIOD, PLACE, USEFUL, WORDS,
 };
 use crate::model::TASKS_MOST;
 use std::ops::RangeInclusive;
@@ -11,13 +11,7 @@ use std::ops::RangeInclusive;
 const TIME_MOST: u64 = 250_000_000;
 
 /// Each with its least.
-const TIMES: [(usize, u64); 5] = [
-    (EXECUTION, 1),
-    (PERIOD, 1),
-    (DEADLINE, 1),
-    (JITTER, 0),
-    (BLOCKING, 0),
-];
+const TIMES: [(usize, u64); 4] = [(EXECUTION, 1), (PERIOD, 1), (DEADLINE, 1), (JITTER, 0)];
 
 /// The first is not above the second.
 const ORDER: [(usize, usize); 2] = [(JITTER, DEADLINE), (DEADLINE, PERIOD)];
@@ -146,8 +140,8 @@ fn length_of(value: &Value) -> usize {
         ways => (sets + 1, vec![value.sets(), value.reload_time(), ways]),
     };
     let tasks = value.places().take(value.taken()).map(|task| {
-        let times: usize = task[EXECUTION..=BLOCKING].iter().map(number).sum();
-        2 + name(task) + times + useful + sets / 4 + 1
+        let times: usize = task[EXECUTION..=JITTER].iter().map(number).sum();
+        2 + name(task) + times + number(&0) + useful + sets / 4 + 1
     });
     let accesses = value.accesses().map(|access| {
         let named = |field: usize| name(value.place(access[field] as usize));

@@ -1,12 +1,12 @@
 //! What the tables that are written have to reach: fields of every length.
 
 use super::Names;
-use crate::model::value::{Value, ACCESS_LENGTH, BLOCKING, EXECUTION, NAME};
+use crate::model::value::{Value, ACCESS_LENGTH, EXECUTION, JITTER, NAME};
 use crate::model::Writing;
 use std::collections::BTreeSet;
 
 /// The longest table's in hex, without accesses and with them, and that of any table.
-const LENGTHS_MOST: [usize; 3] = [6_253, 9_293, 16_384];
+const LENGTHS_MOST: [usize; 3] = [5_997, 9_293, 16_384];
 
 pub fn all() -> Names {
     let mut names = Names::new();
@@ -28,7 +28,7 @@ pub fn reached(value: &Value, writing: &Writing) -> Names {
     for task in value.places().take(value.taken()) {
         let name = task[NAME].iter().take_while(|byte| **byte != 0);
         lengths.insert(name.count());
-        let times = &task[EXECUTION..=BLOCKING];
+        let times = &task[EXECUTION..=JITTER];
         digits.extend(times.iter().map(|time| digits_of(*time)));
     }
     let lengths_of_accesses = value.accesses().map(|access| access[ACCESS_LENGTH]);

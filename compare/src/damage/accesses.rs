@@ -97,7 +97,7 @@ pub enum AccessPlan {
     FirstOfAll(Option<Wrong>),
     /// Access lines and no task line.
     NoTask,
-    /// B above 0 beside accesses, alone and with other reasons.
+    /// B above 0 in a table with accesses, and with other reasons.
     Blocked,
     BlockedAndTask(u64),
     BlockedAndAccess(Wrong),
@@ -169,7 +169,7 @@ impl AccessPlan {
             OtherAfterAccesses => "another line after 32 access lines".to_string(),
             FirstOfAll(wrong) => format!("an access line first, and {}", of(wrong)),
             NoTask => "access lines without a task line".to_string(),
-            Blocked => "17 alone".to_string(),
+            Blocked => "17 beside accesses".to_string(),
             BlockedAndTask(kind) => format!("17, and {kind} on a task line"),
             BlockedAndAccess(wrong) => format!("17, and {} on an access line", wrong.name()),
             BlockedAndTooMany => "17 and 16".to_string(),
@@ -390,7 +390,7 @@ impl Draft {
     }
 
     /// Gives one or two tasks a B above 0.
-    fn block(&mut self, random: &mut Random) -> Refusal {
+    pub(super) fn block(&mut self, random: &mut Random) -> Refusal {
         let any = random.between(1, self.tasks as u64) as usize;
         let below = random.between(any as u64, self.tasks as u64) as usize;
         let first = *random.pick(&[1, any, any]);

@@ -10,7 +10,7 @@ const S: &str = "K 4 1|T a 1 20 20 0 0 0 3|T b 2 40 40 0 0 0 0|T c 3 60 60 0 0 3
 const S_REPORT: &str = "R a 20 1 1 1 1 1 1|R b 40 5 7 7 7 7 7|R c 60 6 8 10 8 10 8|\
                         V yes yes yes yes yes yes|";
 
-/// An access without useful sets does what a B of its length does.
+/// An access without useful sets costs its length alone.
 const A_BLOCKED: &str = "R a 20 1 1 1 1 1 1|R b 40 6 10 8 8 8 8|R c 60 5 13 9 11 9 9|\
                          V yes yes yes yes yes yes|";
 
@@ -50,12 +50,10 @@ fn with(table: &str, accesses: &[&str]) -> String {
 
 fn reports() -> Vec<Figure> {
     let empty = with(A, &["A c b 3 0|"]);
-    let blocked = A.replace("40 40 0 0", "40 40 0 3");
     let own_ceilings = with(A, &["A a a 9 f|A b b 9 f|A c c 9 f|"]);
     let rows: Vec<(&'static str, &str, &str)> = vec![
         ("S, whole report", S, S_REPORT),
         ("A, an access without marks", &empty, A_BLOCKED),
-        ("A, B of b = 3", &blocked, A_BLOCKED),
         ("A, the tasks as ceilings", &own_ceilings, A_REPORT),
     ];
     let figures = rows.into_iter().map(|(name, table, report)| Figure {
@@ -68,9 +66,7 @@ fn reports() -> Vec<Figure> {
 
 fn responses() -> Vec<Figure> {
     use Expected::{NoResponse, Response};
-    let before = S
-        .replace("40 40 0 0", "40 40 0 2")
-        .replace("A c b 2 3|", "");
+    let unmarked = S.replace("A c b 2 3|", "A c b 2 0|");
     let q = with(Q, &[Q_LONG, Q_SHORT]);
     let q_alone = with(Q, &[Q_LONG]);
     let q_9 = q.replace("40 40", "40 9");
@@ -81,7 +77,7 @@ fn responses() -> Vec<Figure> {
     let d_17 = D.replace("300 300", "300 17");
     let d_16 = D.replace("300 300", "300 16");
     let rows: Vec<(&'static str, &str, Expected)> = vec![
-        ("S with B for the access", &before, Response(3, 1, 5)),
+        ("S without the marks", &unmarked, Response(3, 1, 5)),
         ("Q, b, method 0: the longer", &q, Response(0, 1, 6)),
         ("Q, b, method 1: the longer", &q, Response(1, 1, 10)),
         ("Q, b, method 2: the shorter", &q, Response(2, 1, 9)),
@@ -301,8 +297,14 @@ mod tests {
                 1,
                 "X b 4 9 40 2 2|I a 1 4 c|",
             ),
-            (Error::KeepsOwnBlocking, &full, 4, 1, "X b 4 beyond 40 2 0|"),
-            (Error::ShowsOwnBlocking, S, 4, 1, own),
+            (
+                Error::LooksAtNothingFirst,
+                &full,
+                4,
+                1,
+                "X b 4 beyond 40 2 0|",
+            ),
+            (Error::ShowsNoBlocking, S, 4, 1, own),
             (Error::HitsAccessOfEquals, D, 2, 2, hit),
         ];
         for (error, table, method, position, lines) in rows {
@@ -321,7 +323,6 @@ mod tests {
         let access = "A c b 1 0|";
         let twice = with(A, &[access, access]);
         let unread = with(A, &[&access.repeat(32), "A|"]);
-        let blocked = A.replace("40 40 0 0", "40 40 0 1");
         let rows: Vec<(Error, &str, u64, u64)> = vec![
             (Error::RefusesOwnCeiling, "A c c 1 0|", 15, 5),
             (Error::LooksUpNamesFirst, "A d b 1 00|", 15, 5),
@@ -335,7 +336,6 @@ mod tests {
             (Error::CountsAllLines, with(&full, &["x|"]), 10, 34),
             (Error::LooksAtOrderFirst, misplaced, 3, 35),
             (Error::RefusesEqualAccess, twice, 9, 6),
-            (Error::RefusesEveryBlocking, blocked, 17, 3),
         ]);
         for (error, table, number, line) in rows {
             let refusal = outcome(&table, error).refusal();
@@ -343,5 +343,21 @@ mod tests {
             let refusal = Outcome::of(&text(&table), None).refusal();
             assert_ne!(refusal, Some(Refusal::new(number, line)), "{error:?}");
         }
+    }
+
+    #[test]
+    fn the_errors_of_blocking_do_what_they_say() {
+        let one = A.replace("40 40 0 0", "40 40 0 1");
+        let two = one.replace("60 60 0 0", "60 60 0 9");
+        let line = |table: &str, error| {
+            let refusal = Outcome::of(&text(table), error).refusal();
+            refusal.map(|refusal| (refusal.number, refusal.line))
+        };
+        let alone = Some(Error::AllowsBlockingAlone);
+        assert_eq!(line(&one, None), Some((17, 3)));
+        assert_eq!(line(&one, alone), None);
+        assert_eq!(line(&with(&one, &["A c b 1 0|"]), alone), Some((17, 3)));
+        assert_eq!(line(&two, None), Some((17, 3)));
+        assert_eq!(line(&two, Some(Error::TellsLastBlocked)), Some((17, 4)));
     }
 }

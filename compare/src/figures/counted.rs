@@ -125,7 +125,7 @@ fn explanations() -> Vec<Figure> {
     figures.push(Figure {
         name: "the longest explanation",
         text: longest_explanation(),
-        expected: Expected::ExplanationLength(4, 31, 1_348),
+        expected: Expected::ExplanationLength(4, 31, 1_342),
     });
     figures
 }

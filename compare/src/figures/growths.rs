@@ -9,8 +9,8 @@ const THREE_OF_FOUR: &str = "K 4 0|T a 3 4 4 0 0 0 0|";
 /// 3,001 on.
 const ONE_OF_THREE: &str = "K 4 0|T a 1 3 3 0 0 0 0|";
 
-/// B stays, so that ⌈2k / 1000⌉ may be 5: up to 5,000 / 2.
-const BLOCKED: &str = "K 4 0|T a 2 10 10 0 5 0 0|";
+/// The access stays, so that ⌈2k / 1000⌉ may be 5: up to 5,000 / 2. b has time enough.
+const BLOCKED: &str = "K 4 0|T a 2 10 10 0 0 0 0|T b 1 99 99 0 0 0 0|A b a 5 0|";
 
 /// Each takes one tick of every two with k = 1 already, and there are three of them.
 const THREE_TICKS_OF_TWO: &str = "K 4 0|T a 1 2 2 0 0 0 0|T b 1 2 2 0 0 0 0|T c 1 2 2 0 0 0 0|";
@@ -69,7 +69,7 @@ fn growths() -> Vec<Figure> {
         ("P may not grow", P, [1_000; 6]),
         ("a C of 3 in 4 ticks", THREE_OF_FOUR, [1_333; 6]),
         ("a C of 1 in 3 ticks", ONE_OF_THREE, [3_000; 6]),
-        ("B does not grow", BLOCKED, [2_500; 6]),
+        ("an access of 5 ticks stays", BLOCKED, [2_500; 6]),
         ("three ticks of two", THREE_TICKS_OF_TWO, [0; 6]),
         ("a limit of 0", NO_LIMIT, [0; 6]),
         // 250,000,000 with 2,500, with 1,000, and with 4,000; 250,000,004 with 4,000
@@ -144,7 +144,7 @@ mod tests {
             (Error::TellsFirstFailing, &nine, 0, 1_501),
             (Error::TellsFirstFailing, A, 0, 4_000),
             (Error::ScalesLengths, SHARED, 0, 1_000),
-            (Error::ScalesBlocking, BLOCKED, 0, 1_400),
+            (Error::ScalesLengths, BLOCKED, 0, 1_400),
             (Error::ScalesPeriods, THREE_OF_FOUR, 0, 4_000),
             (Error::LetsRefusedPass, &hundred, 0, 4_000),
             (Error::LooksAtLastTask, last_has_time, 0, 4_000),

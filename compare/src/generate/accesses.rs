@@ -25,12 +25,8 @@ pub fn perhaps_share_little(random: &mut Random, table: &mut Table) {
     }
 }
 
-/// Gives the table `count` accesses, or as many as there is room for, and every task a B of 0, as a
-/// table with accesses wants it.
+/// Gives the table `count` accesses, or as many as there is room for.
 pub fn share(random: &mut Random, table: &mut Table, count: u64) {
-    for task in &mut table.tasks {
-        task.blocking = 0;
-    }
     // all of one task, with the same ceiling, or most as they come
     let alike = random.chance(15);
     for index in 0..count as usize {

@@ -83,7 +83,7 @@ pub fn crossed(random: &mut Random) -> Table {
     let periods = [400, 700, 900, 1_300].map(|period| period * random.between(1, 3));
     let mut table = with_load(random, sets, reload_time, &periods, 150);
     for task in &mut table.tasks {
-        (task.deadline, task.jitter, task.blocking) = (task.period, 0, 0);
+        (task.deadline, task.jitter) = (task.period, 0);
         task.useful = vec![0; sets];
     }
     table.tasks[0].evicting = block(sets, sets / 2, sets / 2);
@@ -137,7 +137,6 @@ pub fn edges(random: &mut Random, longest: u64) -> Table {
         task.jitter = *random.pick(&beside);
         let beside = [1, 1, 2, period, TIME_MOST - 1, TIME_MOST];
         task.execution = *random.pick(&beside);
-        task.blocking = *random.pick(&[0, 0, 0, 1, TIME_MOST - 1, TIME_MOST]);
     }
     perhaps_share(random, &mut table);
     take_end_lengths(random, &mut table);
@@ -168,7 +167,6 @@ pub fn full(random: &mut Random, longest: u64) -> Table {
         let execution = if random.chance(30) { most } else { 1 };
         task.execution = execution;
         task.jitter = if random.chance(80) { 0 } else { task.jitter };
-        task.blocking = 0;
         free -= execution as f64 / task.period as f64;
     }
     for task in &mut table.tasks[above..] {
@@ -224,20 +222,17 @@ pub fn near_end(random: &mut Random) -> Table {
     let taken: u64 = table.tasks[..position].iter().map(taken).sum();
     if taken < needed {
         let own = needed - taken;
-        let has_accesses = !table.accesses.is_empty();
         let is_blocking =
             |access: &&mut Access| access.ceiling <= position && position < access.task;
         let access = table.accesses.iter_mut().find(is_blocking);
-        // without an access that could take the rest, a task beside accesses has all of it
+        // without an access that could take the rest the task has all of it
         let least = own.saturating_sub(TIME_MOST).max(1);
         let execution = match access {
-            None if has_accesses => own.min(TIME_MOST),
-            _ => random.between(least, own.min(TIME_MOST)),
+            None => own.min(TIME_MOST),
+            Some(_) => random.between(least, own.min(TIME_MOST)),
         };
-        match access {
-            Some(access) => access.length = (own - execution).max(1),
-            None if has_accesses => {}
-            None => table.tasks[position].blocking = own - execution,
+        if let Some(access) = access {
+            access.length = (own - execution).max(1);
         }
         table.tasks[position].execution = execution;
     }

@@ -55,7 +55,7 @@ pub fn nearly_refused(random: &mut Random) -> Table {
     let mut table = with_load(random, 4, 0, &vec![TIME_MOST; count], 1);
     for task in &mut table.tasks {
         (task.execution, task.deadline) = (1, TIME_MOST);
-        (task.jitter, task.blocking) = (0, 0);
+        task.jitter = 0;
     }
     let any = random.between(1_000, 4_000);
     let k = *random.pick(&[1_000, 1_001, any, any, 3_999, 4_000]);
@@ -100,7 +100,6 @@ fn as_long_as(random: &mut Random, length: usize) -> Table {
             period: TIME_MOST,
             deadline: TIME_MOST,
             jitter: 0,
-            blocking: 0,
             useful: useful(random, table.form),
             evicting: block(sets, 0, random.below(3)),
         });

@@ -51,7 +51,6 @@ fn table<'a>(form: Form, tasks: impl Iterator<Item = (Vec<usize>, &'a [bool])>) 
             period: TIME_MOST,
             deadline: TIME_MOST,
             jitter: 0,
-            blocking: 0,
             useful,
             evicting: evicting.to_vec(),
         });

@@ -25,7 +25,6 @@ pub fn published(random: &mut Random, tasks: usize, fineness: f64, utilisation: 
             period,
             deadline: period,
             jitter: 0,
-            blocking: 0,
             useful: ones(block(sets, start, reused)),
             evicting: block(sets, start, used),
         }
@@ -122,7 +121,6 @@ fn of_ones(periods: &[u64]) -> Table {
         period: *period,
         deadline: *period,
         jitter: 0,
-        blocking: 0,
         useful: vec![0; 256],
         evicting: vec![false; 256],
     };

@@ -8,12 +8,12 @@ pub struct Blocker {
     /// What stands for B.
     pub length: u64,
     /// The accesses, by their places in the table, that may be pre-empted meanwhile: the one that
-    /// blocks, or none where the task has its own B.
+    /// blocks, or none where nothing does.
     pub accesses: Vec<usize>,
 }
 
-/// Everything of which the worst is taken: each access that may block the task at `i`, or its own B
-/// where there is none.
+/// Everything of which the worst is taken: each access that may block the task at `i`, or nothing for 0
+/// ticks where there is none.
 pub fn blockers(table: &Table, i: usize, error: Option<Error>) -> Vec<Blocker> {
     let accesses = table.accesses.iter().enumerate();
     let blocking = accesses.filter(|(_, access)| may_block(access, i, error));
@@ -22,13 +22,13 @@ pub fn blockers(table: &Table, i: usize, error: Option<Error>) -> Vec<Blocker> {
         accesses: vec![place],
     });
     let each: Vec<Blocker> = each.collect();
-    let own = Blocker {
-        length: table.tasks[i].blocking,
+    let nothing = Blocker {
+        length: 0,
         accesses: Vec::new(),
     };
     match error {
-        _ if each.is_empty() => vec![own],
-        Some(Error::KeepsOwnBlocking) => [vec![own], each].concat(),
+        _ if each.is_empty() => vec![nothing],
+        Some(Error::LooksAtNothingFirst) => [vec![nothing], each].concat(),
         _ => mistaken(each, error),
     }
 }

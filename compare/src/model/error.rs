@@ -87,8 +87,8 @@ pub enum Error {
     ExplainsFirst,
     /// 39: a figure that is beyond is smaller than any number where accesses are compared.
     ExplainsLargestNumber,
-    /// 40: B is shown as the task line has it.
-    ShowsOwnBlocking,
+    /// 40: B is shown as the task line has it, 0.
+    ShowsNoBlocking,
     /// 41: the access's task is the victim where it is equal to an affected one.
     HitsAccessOfEquals,
     /// 42: 15 comes before 7.
@@ -103,19 +103,19 @@ pub enum Error {
     RefusesOwnCeiling,
     /// 47: 9 is given for an access that stands on an earlier line.
     RefusesEqualAccess,
-    /// 48: 17 is given in a table without accesses.
-    RefusesEveryBlocking,
+    /// 48: 17 is given only in a table with accesses.
+    AllowsBlockingAlone,
     /// 49: a written access has the ceiling's name before the task's.
     WritesCeilingFirst,
     /// 50: a table value is written though a ceiling is below its task.
     OverlooksLowCeiling,
-    /// 51: a table value is written though B is above 0 beside accesses.
-    OverlooksBlocking,
+    /// 51: a table value is written though its text is too long.
+    OverlooksLength,
     /// 52: a table value is written though a place past its last access is not empty.
     OverlooksPastLastAccess,
-    /// 53: the task's own B is looked at before the accesses that may block it. As it is 0 then, that
-    /// shows only in explanations of what is beyond with and without them.
-    KeepsOwnBlocking,
+    /// 53: the plain equation is looked at before the accesses that may block the task. That shows only
+    /// in explanations of what is beyond with and without them.
+    LooksAtNothingFirst,
     /// 54: scaled execution times are rounded down.
     RoundsDown,
     /// 55: scaled execution times are rounded to the nearest.
@@ -132,8 +132,8 @@ pub enum Error {
     TellsFirstFailing,
     /// 61: the lengths of accesses are scaled as well.
     ScalesLengths,
-    /// 62: B is scaled as well.
-    ScalesBlocking,
+    /// 62: a scaled table passes though its text is too long.
+    LetsLongPass,
     /// 63: T and D are scaled as well.
     ScalesPeriods,
     /// 64: a scaled table that is refused counts as `yes`.
@@ -191,10 +191,8 @@ pub enum Error {
     WritesCountsFromLowestSet,
     /// 96: a table value is written, without the surplus, though a count is above the ways.
     OverlooksHighCounts,
-    /// 97: a table value is written though its text is too long.
-    OverlooksLength,
-    /// 98: a scaled table passes though its text is too long.
-    LetsLongPass,
+    /// 97: 17 tells the last line with a B above 0.
+    TellsLastBlocked,
 }
 
 /// What of the model an error is built into.
@@ -213,7 +211,7 @@ pub enum Part {
 
 use Part::{Answering, Explaining, Growing, Reading, Summing, Working, Writing};
 
-const ERRORS: [(&str, Error, Part); 99] = [
+const ERRORS: [(&str, Error, Part); 98] = [
     ("1", Error::StartsFromGuess, Answering),
     ("2", Error::JudgesAtLimit, Answering),
     ("3", Error::CombinesPerPair, Answering),
@@ -254,7 +252,7 @@ const ERRORS: [(&str, Error, Part); 99] = [
     ("37", Error::ExplainsLastOfEquals, Explaining),
     ("38", Error::ExplainsFirst, Explaining),
     ("39", Error::ExplainsLargestNumber, Explaining),
-    ("40", Error::ShowsOwnBlocking, Explaining),
+    ("40", Error::ShowsNoBlocking, Explaining),
     ("41", Error::HitsAccessOfEquals, Explaining),
     ("42", Error::LooksUpNamesFirst, Reading),
     ("43", Error::CountsFieldsFirst, Reading),
@@ -262,12 +260,12 @@ const ERRORS: [(&str, Error, Part); 99] = [
     ("45", Error::LooksAtOrderFirst, Reading),
     ("46", Error::RefusesOwnCeiling, Reading),
     ("47", Error::RefusesEqualAccess, Reading),
-    ("48", Error::RefusesEveryBlocking, Reading),
+    ("48", Error::AllowsBlockingAlone, Reading),
     ("49", Error::WritesCeilingFirst, Writing),
     ("50", Error::OverlooksLowCeiling, Writing),
-    ("51", Error::OverlooksBlocking, Writing),
+    ("51", Error::OverlooksLength, Writing),
     ("52", Error::OverlooksPastLastAccess, Writing),
-    ("53", Error::KeepsOwnBlocking, Explaining),
+    ("53", Error::LooksAtNothingFirst, Explaining),
     ("54", Error::RoundsDown, Growing),
     ("55", Error::RoundsToNearest, Growing),
     ("56", Error::MultipliesIn32Bits, Growing),
@@ -276,7 +274,7 @@ const ERRORS: [(&str, Error, Part); 99] = [
     ("59", Error::TellsOneForNone, Growing),
     ("60", Error::TellsFirstFailing, Growing),
     ("61", Error::ScalesLengths, Growing),
-    ("62", Error::ScalesBlocking, Growing),
+    ("62", Error::LetsLongPass, Growing),
     ("63", Error::ScalesPeriods, Growing),
     ("64", Error::LetsRefusedPass, Growing),
     ("65", Error::LooksAtLastTask, Growing),
@@ -311,8 +309,7 @@ const ERRORS: [(&str, Error, Part); 99] = [
     ("94", Error::ForgetsForm, Writing),
     ("95", Error::WritesCountsFromLowestSet, Writing),
     ("96", Error::OverlooksHighCounts, Writing),
-    ("97", Error::OverlooksLength, Writing),
-    ("98", Error::LetsLongPass, Growing),
+    ("97", Error::TellsLastBlocked, Reading),
 ];
 
 impl Error {

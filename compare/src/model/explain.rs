@@ -20,7 +20,7 @@ pub struct Explanation {
     /// D - J.
     pub limit: u64,
     pub execution: u64,
-    /// B, or the length of the access that is explained.
+    /// The length of the access that is explained, or 0.
     pub blocking: u64,
     /// Everything that may block the task, each with its figure by the method explained.
     pub cases: Vec<Case>,
@@ -32,7 +32,7 @@ pub struct Explanation {
 
 /// One thing that may block a task, and the figure that the task has then.
 pub struct Case {
-    /// The place of an access in the table; `None` for the task's own B.
+    /// The place of an access in the table; `None` where nothing blocks.
     pub access: Option<usize>,
     pub figure: Option<u64>,
 }
@@ -85,7 +85,7 @@ impl<'a> Explainer<'a> {
         let blocker = &worst.blockers[worst.explained];
         let taken = shown.map_or(Vec::new(), |figure| self.taken(method, i, blocker, figure));
         let blocking = match self.error {
-            Some(Error::ShowsOwnBlocking) => task.blocking,
+            Some(Error::ShowsNoBlocking) => 0,
             _ => blocker.length,
         };
         Explanation {

@@ -191,11 +191,10 @@ fn fields_of(line: &[u8], error: Option<Error>) -> Vec<Field> {
 
 /// Whether a field of a line that starts with `first` is scaled: C of a task, and nothing else.
 fn is_scaled(first: &[u8], place: usize, error: Option<Error>) -> bool {
-    let (period, deadline, blocking, length) = (3, 4, 6, 3);
+    let (period, deadline, length) = (3, 4, 3);
     match (first, error) {
         (b"T", _) if place == 2 => true,
         (b"T", Some(Error::ScalesPeriods)) => place == period || place == deadline,
-        (b"T", Some(Error::ScalesBlocking)) => place == blocking,
         (b"A", Some(Error::ScalesLengths)) => place == length,
         _ => false,
     }

@@ -46,7 +46,6 @@ pub struct Task {
     pub period: u64,
     pub deadline: u64,
     pub jitter: u64,
-    pub blocking: u64,
     /// By cache set how many useful blocks it has.
     pub useful: Vec<usize>,
     /// Cache sets in rising order.
@@ -93,20 +92,29 @@ pub fn read_of_any_length(text: &[u8], error: Option<Error>) -> Result<Table, Re
         tasks: Vec::new(),
         accesses: Vec::new(),
     };
-    for (line, place) in lines.zip(2..) {
+    for (line, place) in lines.clone().zip(2..) {
         let added = add_line(&mut table, line, error);
         added.map_err(|number| Refusal::new(number, place))?;
     }
     if table.tasks.is_empty() {
         return Err(Refusal::new(11, 1));
     }
-    if !table.accesses.is_empty() || error == Some(Error::RefusesEveryBlocking) {
-        let mut tasks = table.tasks.iter().zip(2..);
-        if let Some((_, place)) = tasks.find(|(task, _)| task.blocking > 0) {
-            return Err(Refusal::new(17, place));
-        }
+    let mut blocked = lines.zip(2..).filter(|(line, _)| is_blocked(line));
+    let told = match error {
+        Some(Error::AllowsBlockingAlone) if table.accesses.is_empty() => None,
+        Some(Error::TellsLastBlocked) => blocked.last(),
+        _ => blocked.next(),
+    };
+    match told {
+        Some((_, place)) => Err(Refusal::new(17, place)),
+        None => Ok(table),
     }
-    Ok(table)
+}
+
+/// Whether a line, which is good otherwise, is that of a task with a B above 0.
+fn is_blocked(line: &[u8]) -> bool {
+    let fields = split(line);
+    fields[0] == b"T" && fields[6] != b"0"
 }
 
 fn cache_line(line: &[u8], error: Option<Error>) -> Result<(usize, u64, Form), Number> {
@@ -188,7 +196,6 @@ fn task_line(table: &Table, fields: &[&[u8]], error: Option<Error>) -> Result<Ta
         period: positive[1],
         deadline: positive[2],
         jitter: others[0],
-        blocking: others[1],
         useful,
         evicting,
     };

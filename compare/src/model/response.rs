@@ -23,7 +23,7 @@ pub struct Load {
     pub jitter: u64,
 }
 
-/// One equation: the task's own ticks (C + B) and what the tasks above it take.
+/// One equation: the task's own ticks (C and what blocks it) and what the tasks above it take.
 #[derive(Clone, Debug)]
 pub struct Equation {
     pub own: u64,

@@ -2,7 +2,7 @@
 //!
 //! The list starts with the number of cache sets, the block reload time, the form and the number of
 //! tasks. The form is 0 where line 1 has three fields, and otherwise the number of ways. Then come the
-//! 32 places, each of which has the 12 bytes of a name, filled up with zeros, the times C, T, D, J and B,
+//! 32 places, each of which has the 12 bytes of a name, filled up with zeros, the times C, T, D and J,
 //! 32 words of UCB and four words of ECB. The tasks have the first places, and the others are all zeros.
 //! Then come the number of accesses and 32 places for them, each of which has the positions of the task
 //! and of the ceiling, the length, and 32 words of UCB. The accesses have the first of these, and the
@@ -34,8 +34,7 @@ pub const EXECUTION: usize = 12;
 pub const PERIOD: usize = 13;
 pub const DEADLINE: usize = 14;
 pub const JITTER: usize = 15;
-pub const BLOCKING: usize = 16;
-pub const USEFUL: Range<usize> = 17..17 + LEVELS * WORDS;
+pub const USEFUL: Range<usize> = 16..16 + LEVELS * WORDS;
 pub const EVICTING: Range<usize> = USEFUL.end..USEFUL.end + WORDS;
 
 /// How many numbers a place has.
@@ -225,7 +224,6 @@ pub fn field_name(field: usize) -> String {
         PERIOD => "T".to_string(),
         DEADLINE => "D".to_string(),
         JITTER => "J".to_string(),
-        BLOCKING => "B".to_string(),
         _ if NAME.contains(&field) => format!("name byte {field}"),
         _ if USEFUL.contains(&field) => format!("UCB level {}", level_of(field - USEFUL.start)),
         _ => format!("ECB word {}", field - EVICTING.start),
@@ -257,7 +255,6 @@ fn place_of(task: &Task) -> Vec<u64> {
     place[PERIOD] = task.period;
     place[DEADLINE] = task.deadline;
     place[JITTER] = task.jitter;
-    place[BLOCKING] = task.blocking;
     count_up(&mut place[USEFUL], &task.useful);
     mark(&mut place[EVICTING], &task.evicting);
     place
@@ -298,8 +295,7 @@ fn levels_in_words(words: &[u64]) -> String {
 /// The words of cache sets in hex, the lowest first.
 fn in_words(place: &[u64]) -> String {
     let name: Vec<u8> = place[NAME].iter().map(|byte| *byte as u8).collect();
-    let times =
-        (EXECUTION..=BLOCKING).map(|field| format!("{} {}", field_name(field), place[field]));
+    let times = (EXECUTION..=JITTER).map(|field| format!("{} {}", field_name(field), place[field]));
     let times: Vec<String> = times.collect();
     format!(
         "name {}, {}, UCB {}, ECB {:x?}",
@@ -329,17 +325,17 @@ mod tests {
     #[test]
     fn each_number_stands_in_its_place() {
         let value = Value::of(&read(&table_m()).expect("a valid table"));
-        assert_eq!(value.numbers.len(), 2_821);
+        assert_eq!(value.numbers.len(), 2_789);
         assert_eq!(value.numbers[..4], [8, 1, 0, 3]);
-        let mut last = [0; 53];
+        let mut last = [0; 52];
         last[0] = u64::from(b'c');
-        last[12..17].copy_from_slice(&[2, 60, 60, 0, 0]);
-        (last[17], last[49]) = (0x3c, 0x3c);
+        last[12..16].copy_from_slice(&[2, 60, 60, 0]);
+        (last[16], last[48]) = (0x3c, 0x3c);
         assert_eq!(value.place(2), last);
         assert!(value.places().skip(3).flatten().all(|number| *number == 0));
-        assert!(value.numbers[1_700..].iter().all(|number| *number == 0));
-        assert_eq!(kind_of(at(31, 52)), Kind::OfTask(31, 52));
-        assert_eq!(at(31, 52), 1_699);
+        assert!(value.numbers[1_668..].iter().all(|number| *number == 0));
+        assert_eq!(kind_of(at(31, 51)), Kind::OfTask(31, 51));
+        assert_eq!(at(31, 51), 1_667);
     }
 
     #[test]
@@ -347,14 +343,14 @@ mod tests {
         let accesses = b"A\tc\tb\t77\t81\nA\tb\tb\t5\t00\n";
         let text = [table_m(), accesses.to_vec()].concat();
         let value = Value::of(&read(&text).expect("a valid table"));
-        assert_eq!(value.numbers[1_700], 2);
-        assert_eq!(value.numbers[1_701..1_708], [2, 1, 77, 0x81, 0, 0, 0]);
-        assert_eq!(value.numbers[1_736..1_743], [1, 1, 5, 0, 0, 0, 0]);
-        assert!(value.numbers[1_743..].iter().all(|number| *number == 0));
-        assert_eq!(kind_of(1_700), Kind::OfTable);
-        assert_eq!(kind_of(1_701), Kind::OfAccess(0, 0));
+        assert_eq!(value.numbers[1_668], 2);
+        assert_eq!(value.numbers[1_669..1_676], [2, 1, 77, 0x81, 0, 0, 0]);
+        assert_eq!(value.numbers[1_704..1_711], [1, 1, 5, 0, 0, 0, 0]);
+        assert!(value.numbers[1_711..].iter().all(|number| *number == 0));
+        assert_eq!(kind_of(1_668), Kind::OfTable);
+        assert_eq!(kind_of(1_669), Kind::OfAccess(0, 0));
         assert_eq!(kind_of(access_at(31, 34)), Kind::OfAccess(31, 34));
-        assert_eq!(access_at(31, 34), 2_820);
+        assert_eq!(access_at(31, 34), 2_788);
     }
 
     #[test]
@@ -372,9 +368,9 @@ mod tests {
     #[test]
     fn a_list_that_is_too_short_has_no_value() {
         let list: Vec<u64> = (0..2_900).collect();
-        assert_eq!(Value::at_start(&list[..2_820]), None);
+        assert_eq!(Value::at_start(&list[..2_788]), None);
         let value = Value::at_start(&list).expect("long enough");
-        assert_eq!(value.numbers, list[..2_821]);
+        assert_eq!(value.numbers, list[..2_789]);
     }
 
     #[test]

@@ -110,7 +110,7 @@ impl Speller {
             self.number(period),
             self.number(place[value::DEADLINE]),
             self.number(place[value::JITTER]),
-            self.number(place[value::BLOCKING]),
+            b"0".to_vec(),
             self.useful_sets(&place[USEFUL]),
             self.cache_sets(&place[EVICTING]),
         ])
@@ -201,7 +201,6 @@ fn overlooking(value: &Value, error: Option<Error>) -> Value {
         Some(Error::OverlooksHighMarks) => clear_high_marks(&mut value),
         Some(Error::OverlooksPastEnd) => clear_past_end(&mut value),
         Some(Error::OverlooksLowCeiling) => raise_ceilings(&mut value),
-        Some(Error::OverlooksBlocking) => clear_blocking(&mut value),
         Some(Error::OverlooksPastLastAccess) => clear_past_last_access(&mut value),
         Some(Error::OverlooksHighCounts) => clear_high_levels(&mut value),
         _ => {}
@@ -262,17 +261,6 @@ fn raise_ceilings(value: &mut Value) {
         if place[value::ACCESS_CEILING] < tasks {
             let task = place[value::ACCESS_TASK];
             place[value::ACCESS_CEILING] = place[value::ACCESS_CEILING].min(task);
-        }
-    }
-}
-
-fn clear_blocking(value: &mut Value) {
-    if value.access_count() > 0 {
-        for index in 0..value.taken() {
-            let blocking = &mut value.place_mut(index)[value::BLOCKING];
-            if *blocking <= 250_000_000 {
-                *blocking = 0;
-            }
         }
     }
 }
@@ -352,7 +340,7 @@ mod tests {
         }
         assert!(refused(|value| value.place_mut(1)[0] = u64::from(b'c')));
         assert!(refused(|value| value.place_mut(2)[USEFUL.start] = 1 << 8));
-        assert!(refused(|value| value.place_mut(31)[value::BLOCKING] = 1));
+        assert!(refused(|value| value.place_mut(31)[value::JITTER] = 1));
     }
 
     #[test]
@@ -374,7 +362,6 @@ mod tests {
             assert!(refused_with(value::access_at(0, field), number));
         }
         assert!(refused_with(value::access_at(2, 6), 1));
-        assert!(refused_with(value::at(0, value::BLOCKING), 1));
     }
 
     #[test]
@@ -408,7 +395,7 @@ mod tests {
     #[test]
     fn the_errors_write_what_they_overlook_and_nothing_else() {
         type Change = fn(&mut Value);
-        let changes: [(Error, Change); 7] = [
+        let changes: [(Error, Change); 6] = [
             (Error::OverlooksHighCounts, |value| {
                 value.place_mut(1)[USEFUL.start + WORDS] = 1;
             }),
@@ -424,10 +411,6 @@ mod tests {
             (Error::OverlooksLowCeiling, |value| {
                 add_accesses(value);
                 value.access_mut(0)[value::ACCESS_TASK] = 0;
-            }),
-            (Error::OverlooksBlocking, |value| {
-                add_accesses(value);
-                value.place_mut(1)[value::BLOCKING] = 9;
             }),
             (Error::OverlooksPastLastAccess, |value| {
                 value.access_mut(0)[value::ACCESS_LENGTH] = 1;

@@ -3,7 +3,7 @@
 use super::{asked, code, costs, give, search, with_access};
 use super::{Access, Blocks, Counted, Marked, Table, Turns, TASKS_MOST};
 
-const EXPLANATION_MOST: usize = 1_348;
+const EXPLANATION_MOST: usize = 1_342;
 
 /// Where the search for a figure ends.
 const FIGURE_MOST: u64 = 250_000_000;
@@ -17,7 +17,7 @@ struct Reason {
     method: usize,
     /// 0 for none up to the search's end.
     figure: u64,
-    /// B, or the length of the access that blocks.
+    /// The length of the access that blocks, or 0.
     blocking: u64,
     reloads: [u32; TASKS_MOST],
     /// Positions; of use with methods 2 and 4 only.
@@ -77,7 +77,7 @@ fn of_combined(table: &Table, blocks: &impl Blocks, i: usize, turns: &mut Turns)
 }
 
 /// By one of the methods 0 to 4, with the figure if it is not above `end`: of the first access with
-/// the largest one, or with the task's own B.
+/// the largest one, or of the plain equation.
 fn reason(
     table: &Table,
     blocks: &impl Blocks,
@@ -89,7 +89,7 @@ fn reason(
     let mut plain = Reason {
         method,
         figure: 0,
-        blocking: table.tasks[i].blocking,
+        blocking: 0,
         reloads: [0; TASKS_MOST],
         victims: [0; TASKS_MOST],
     };

@@ -171,7 +171,7 @@ fn cases_of(table: &Table, blocks: &impl Blocks, method: usize) -> Vec<Vec<Case>
         let mut cases: Vec<Case> = blocking.map(with).collect();
         if cases.is_empty() {
             cases.push(Case {
-                blocking: table.tasks[i].blocking,
+                blocking: 0,
                 reloads: carried.reloads,
             });
         }

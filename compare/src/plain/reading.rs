@@ -23,11 +23,17 @@ pub fn read(text: &[u8]) -> Result<Table, Refused> {
     };
     let mut from = 0;
     let mut line = 1;
+    // that of the first task with a B above 0
+    let mut blocked = None;
     while from < text.len() {
         let (fields, found, end) = split_line(text, from);
         let read = match fields[0] {
             _ if line == 1 => read_cache(&fields, found, &mut table),
-            b"T" => read_task(&fields, found, &mut table),
+            b"T" => read_task(&fields, found, &mut table).map(|blocking| {
+                if blocking > 0 {
+                    blocked = blocked.or(Some(line));
+                }
+            }),
             b"A" => read_access(&fields, found, &mut table),
             _ => Err(3),
         };
@@ -38,8 +44,8 @@ pub fn read(text: &[u8]) -> Result<Table, Refused> {
     if table.tasks.is_empty() {
         return Err((11, 1));
     }
-    match table.blocked_twice() {
-        Some(task) => Err((17, task as u64 + 2)),
+    match blocked {
+        Some(line) => Err((17, line)),
         None => Ok(table),
     }
 }
@@ -92,7 +98,8 @@ pub fn is_cache(sets: u64, reload_time: u64) -> bool {
     (4..=256).contains(&sets) && sets % 4 == 0 && reload_time <= 100_000
 }
 
-fn read_task(fields: &[&[u8]; 9], found: usize, table: &mut Table) -> Result<(), u64> {
+/// Gives its B.
+fn read_task(fields: &[&[u8]; 9], found: usize, table: &mut Table) -> Result<u64, u64> {
     if table.tasks.len() == TASKS_MOST {
         return Err(10);
     }
@@ -103,11 +110,12 @@ fn read_task(fields: &[&[u8]; 9], found: usize, table: &mut Table) -> Result<(),
     if !is_name(name) {
         return Err(4);
     }
-    let mut times = [0; 5];
-    for (time, field) in times.iter_mut().zip(&fields[2..7]) {
+    let mut times = [0; 4];
+    for (time, field) in times.iter_mut().zip(&fields[2..6]) {
         *time = number(field).ok_or(5u64)?;
     }
-    if !in_range(times) {
+    let blocking = number(fields[6]).ok_or(5u64)?;
+    if !in_range(times) || blocking > TIME_MOST {
         return Err(6);
     }
     let (useful, counts) = useful(fields[7], table).ok_or(7u64)?;
@@ -123,7 +131,7 @@ fn read_task(fields: &[&[u8]; 9], found: usize, table: &mut Table) -> Result<(),
     }
     table.tasks.push(Task::new(name, times, useful, evicting));
     table.counts.extend(counts);
-    Ok(())
+    Ok(blocking)
 }
 
 fn read_access(fields: &[&[u8]; 9], found: usize, table: &mut Table) -> Result<(), u64> {
@@ -165,12 +173,12 @@ pub fn is_length(length: u64) -> bool {
 }
 
 pub fn in_range(times: Times) -> bool {
-    let [execution, period, deadline, _, _] = times;
+    let [execution, period, deadline, _] = times;
     let too_large = times.iter().any(|time| *time > TIME_MOST);
     !too_large && execution != 0 && period != 0 && deadline != 0
 }
 
-pub fn in_order([_, period, deadline, jitter, _]: Times) -> bool {
+pub fn in_order([_, period, deadline, jitter]: Times) -> bool {
     jitter <= deadline && deadline <= period
 }
 

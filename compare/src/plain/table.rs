@@ -9,7 +9,7 @@ use std::fmt::{Result, Write};
 /// How many numbers of a value belong to the whole table, how many to each place of a task and how
 /// many to each place of an access. Before the accesses stands their number.
 const OF_TABLE: usize = 4;
-const OF_PLACE: usize = 12 + 5 + OF_USEFUL + 4;
+const OF_PLACE: usize = 12 + 4 + OF_USEFUL + 4;
 const OF_ACCESS: usize = 3 + OF_USEFUL;
 const OF_TASKS: usize = OF_TABLE + TASKS_MOST * OF_PLACE;
 /// How many numbers a UCB has: four words for each of eight levels.
@@ -55,8 +55,8 @@ pub fn spell(table: &Table, to: &mut String) -> Result {
         let name = name_of(task);
         write!(
             to,
-            "T\t{name}\t{}\t{}\t{}\t{}\t{}",
-            task.execution, task.period, task.deadline, task.jitter, task.blocking
+            "T\t{name}\t{}\t{}\t{}\t{}\t0",
+            task.execution, task.period, task.deadline, task.jitter
         )?;
         match table.counts.get(place) {
             None => spell_sets(table.sets, task.useful, to)?,
@@ -119,7 +119,7 @@ fn table_of(numbers: &[u64]) -> Option<Table> {
         counts: Vec::new(),
     };
     for place in taken(places, count, OF_PLACE)? {
-        let (useful, counts) = useful_of(&place[17..49], &table)?;
+        let (useful, counts) = useful_of(&place[16..48], &table)?;
         let task = task_of(place, useful, table.sets)?;
         table.counts.extend(counts);
         if table.position(task.name()).is_some() {
@@ -132,10 +132,7 @@ fn table_of(numbers: &[u64]) -> Option<Table> {
         table.accesses.push(access_of(place, useful, &table)?);
         table.counts.extend(counts);
     }
-    match table.blocked_twice() {
-        Some(_) => None,
-        None => Some(table),
-    }
+    Some(table)
 }
 
 /// The first `count` places, if there are so many and the others are empty.
@@ -190,8 +187,8 @@ fn task_of(place: &[u64], useful: Words, sets: usize) -> Option<Task> {
     }
     let end = name.iter().position(|byte| *byte == 0).unwrap_or(12);
     let (name, filling) = name.split_at(end);
-    let times = place[12..17].try_into().ok()?;
-    let evicting = place[49..53].try_into().ok()?;
+    let times = place[12..16].try_into().ok()?;
+    let evicting = place[48..52].try_into().ok()?;
     let good = is_name(name)
         && filling.iter().all(|byte| *byte == 0)
         && in_range(times)

@@ -2,15 +2,13 @@
 
 use super::Manner;
 use crate::model::value::{
-    Value, ACCESS_CEILING, ACCESS_COUNT, ACCESS_LENGTH, ACCESS_TASK, ACCESS_USEFUL, BLOCKING,
-    USEFUL,
+    Value, ACCESS_CEILING, ACCESS_COUNT, ACCESS_LENGTH, ACCESS_TASK, ACCESS_USEFUL, USEFUL,
 };
 use crate::model::ACCESSES_MOST;
 use crate::random::Random;
 
-pub const MANNERS: [Manner; 17] = [
+pub const MANNERS: [Manner; 15] = [
     add_access,
-    add_access_without_blocking,
     fill_up,
     count_too_many,
     count_otherwise,
@@ -25,7 +23,6 @@ pub const MANNERS: [Manner; 17] = [
     take_ends_of_lengths,
     pass_ends_of_lengths,
     mark_too_high,
-    add_blocking,
 ];
 
 /// One of the accesses, if there are any.
@@ -34,7 +31,7 @@ fn any_access(random: &mut Random, value: &Value) -> Option<usize> {
     (taken > 0).then(|| random.below(taken))
 }
 
-/// A new access of any task, or one as there is already; nothing becomes of the tasks' B.
+/// A new access of any task, or one as there is already.
 fn add_access(random: &mut Random, value: &mut Value) {
     let taken = value.accesses_taken();
     if taken < ACCESSES_MOST {
@@ -51,19 +48,7 @@ fn add_access(random: &mut Random, value: &mut Value) {
     }
 }
 
-fn take_blocking(value: &mut Value) {
-    for task in 0..value.taken() {
-        value.place_mut(task)[BLOCKING] = 0;
-    }
-}
-
-fn add_access_without_blocking(random: &mut Random, value: &mut Value) {
-    take_blocking(value);
-    add_access(random, value);
-}
-
 fn fill_up(random: &mut Random, value: &mut Value) {
-    take_blocking(value);
     while value.accesses_taken() < ACCESSES_MOST {
         add_access(random, value);
     }
@@ -95,13 +80,9 @@ fn take_last_out(_: &mut Random, value: &mut Value) {
     }
 }
 
-/// After that a task may have a B again.
 fn take_all_out(random: &mut Random, value: &mut Value) {
     while value.accesses_taken() > 0 {
         take_last_out(random, value);
-    }
-    if random.chance(50) {
-        add_blocking(random, value);
     }
 }
 
@@ -192,12 +173,4 @@ fn mark_too_high(random: &mut Random, value: &mut Value) {
         let words = &mut value.access_mut(access)[ACCESS_USEFUL];
         words[(set / 64) as usize] |= 1 << (set % 64);
     }
-}
-
-/// Of the first task, the last or any.
-fn add_blocking(random: &mut Random, value: &mut Value) {
-    let last = value.taken() - 1;
-    let any = random.below(last + 1);
-    let task = *random.pick(&[0, last, any]);
-    value.place_mut(task)[BLOCKING] = random.magnitude(1, 250_000_000);
 }

@@ -1,6 +1,6 @@
 -- Facts about reload counts.
 use Rattle.std.proofs.Common.{ℕ, ◌+◌, ◌≤◌, max, zero-le, mul-le-mul, arith, ◌≡◌, refl, ap, ◌∙◌, Bool, true, false, cond, ltb, List}
-use Rattle.cache.specs.Sets.{Set, size}
+use Rattle.cache.specs.Sets.{Set}
 use Rattle.cache.proofs.SetLaws.{size-le}
 use Rattle.cache.specs.declared.useful.Useful.{Useful}
 use Rattle.cache.specs.Counts.{Counts, nothing, ◌⊕◌, capped, ◌on◌, total}

@@ -1,15 +1,13 @@
 -- A row of charges that an access joins: above its ceiling its UCB is one member more, and from there on nothing changes.
-use Rattle.std.proofs.Common.{ℕ, ◌+◌, ◌≤◌, ◌<◌, zero-le, arith, ◌≡◌, refl, sym, ◌∙◌, List, set, get_or-set_other}
+use Rattle.std.proofs.Common.{ℕ, ◌≤◌, ◌<◌, zero-le, arith, ◌≡◌, refl, sym, ◌∙◌, List}
 use Rattle.table.specs.declared.accesses.Access.{Access}
 use Rattle.table.specs.declared.Table.{Table}
 use Rattle.analysis.specs.declared.costs.Single.{Single}
 use Rattle.analysis.specs.declared.costs.Charge.{Charge}
-use Rattle.analysis.specs.Costs.{no_victim, reloads_with, ucb_of, ecb_of, charge_at, charge_under, term_under}
+use Rattle.analysis.specs.Costs.{reloads_with, charge_at, term_under}
 use Rattle.table.specs.Accepted.{AcceptedTable}
 use Rattle.analysis.proofs.CostLaws.{under-most, charge-past}
-use Rattle.table.specs.Accesses.{added_by}
 use Rattle.analysis.specs.Row.{charge_in, Charged}
-use Rattle.analysis.proofs.OneRowLaws.{tells-front}
 use Rattle.analysis.specs.BlockedRow.{ChargedUnder, FewReloads, term_by}
 
 -- from j on the access has joined, and above j the row is as it was

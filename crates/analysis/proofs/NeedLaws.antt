@@ -13,7 +13,7 @@ use Rattle.search.proofs.LeastLaws.{least_of-least, least-is}
 use Rattle.search.proofs.LaterLaws.{later_first, latest-front}
 use Rattle.table.specs.Tasks.{limit_of}
 use Rattle.table.specs.declared.accesses.Access.{Access}
-use Rattle.table.specs.Accesses.{may_block, blocking, or_else, plain_access, blank_access}
+use Rattle.table.specs.Accesses.{may_block, blocking, or_else, empty_access, blank_access}
 use Rattle.table.proofs.BlockingLaws.{Every, blocking-snoc}
 use Rattle.table.specs.declared.Table.{Table}
 use Rattle.table.specs.Tables.{at, accesses_of}
@@ -93,16 +93,16 @@ module _ (table : Table) (m : Single) (i : ℕ) where
   unfolding needed_of
   some-needed need e = go (blocking i (accesses_of table)) e
     where
-      go : (l : List Access) → Some need ≡ largest_some W l → need ≡ largest_need W (or_else (plain_access (at table i)) l)
+      go : (l : List Access) → Some need ≡ largest_some W l → need ≡ largest_need W (or_else empty_access l)
       go [] e = cc
       go (a ∷ l) e = cc
 
-  pub none-needed : None ≡ largest_some W (blocking i (accesses_of table)) → W (plain_access (at table i)) ≡ needed_of table m i
+  pub none-needed : None ≡ largest_some W (blocking i (accesses_of table)) → W empty_access ≡ needed_of table m i
   unfolding needed_of
   none-needed e = go (blocking i (accesses_of table)) e
     where
-      go : (l : List Access) → None ≡ largest_some W l → W (plain_access (at table i)) ≡ largest_need W (or_else (plain_access (at table i)) l)
-      go [] e = sym (largest-one W (plain_access (at table i)))
+      go : (l : List Access) → None ≡ largest_some W l → W empty_access ≡ largest_need W (or_else empty_access l)
+      go [] e = sym (largest-one W empty_access)
       go (a ∷ l) e = cc
 
   -- the accesses one after the other
@@ -287,7 +287,7 @@ latest-cut limit A B e (a ∷ l) =
 pub blockers-some : (table : Table) (i : ℕ) → 1 ≤ length (blockers_of table i)
 blockers-some table i = go (blocking i (accesses_of table))
   where
-    go : (l : List Access) → 1 ≤ length (or_else (plain_access (at table i)) l)
+    go : (l : List Access) → 1 ≤ length (or_else empty_access l)
     go [] = omega arith
     go (a ∷ l) = omega arith
 

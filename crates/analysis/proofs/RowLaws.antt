@@ -17,9 +17,9 @@ use Rattle.search.proofs.DemandLaws.{no-more-self, demand-same, demand-mono, dem
 use Rattle.search.specs.declared.response.Count.{Count}
 use Rattle.search.specs.Counts.{once, Started}
 use Rattle.search.proofs.CountLaws.{started-same, started-next, started-harder}
-use Rattle.table.specs.Tasks.{own_of, limit_of}
+use Rattle.table.specs.Tasks.{limit_of}
 use Rattle.table.specs.declared.accesses.Access.{Access}
-use Rattle.table.specs.Accesses.{may_block, blocking, or_else, added_by, plain_access, blank_access}
+use Rattle.table.specs.Accesses.{may_block, blocking, or_else, added_by, empty_access, blank_access}
 use Rattle.table.specs.declared.Table.{Table}
 use Rattle.table.specs.Tables.{ways_in, at, accesses_of}
 use Rattle.table.specs.Accepted.{AcceptedTable}
@@ -31,7 +31,7 @@ use Rattle.analysis.specs.declared.carried.Column.{Column}
 use Rattle.analysis.specs.declared.carried.Terms.{Terms}
 use Rattle.analysis.specs.Carried.{terms_for, Long, Ledger, Weighed, WeighedUnder}
 use Rattle.analysis.proofs.TermLaws.{has-none, joined}
-use Rattle.analysis.proofs.AnswerLaws.{by_one, From, blocking-same, from-first, from-plain, from-yes, from-no, from-again, from-all}
+use Rattle.analysis.proofs.AnswerLaws.{by_one, From, blocking-same, from-first, from-plain, from-yes, from-no, from-again, from-all, plain-blocks}
 use Rattle.analysis.specs.Analysis.{least_under, answer_of, response_of, Blocks, OneBlocks}
 use Rattle.analysis.specs.declared.rows.Answers.{Answers}
 use Rattle.analysis.specs.Rows.{answer_in, Answered, cheaper, Rising, WithOne, row_told, plain_of, Left, row_of}
@@ -54,7 +54,7 @@ plain-term table a i j = refl
 
 pub plain-ranged : (table : Table) (i : ℕ) → AcceptedTable table → i < table.count → (j : ℕ) → j < i → InRange (plain_of table j)
 plain-ranged table i accepted here j l =
-    let a = plain_access (at table i) in rw (plain-term table a i j) (term-ranged table a None i j accepted (omega arith))
+    rw (plain-term table empty_access i j) (term-ranged table empty_access None i j accepted (omega arith))
 
 module _ (table : Table) (a : Access) (i : ℕ) (accepted : AcceptedTable table) (here : i < table.count) where
   ranged : (m : Single) (j : ℕ) → j < i → InRange (term_under table a m i j)
@@ -172,7 +172,7 @@ pub rising-first : Rising first_answers
 unfolding NoLater
 rising-first = record { each = λ m. rw (first-is (cheaper m), first-is m) (omega arith) }
 
--- B as an access adds nothing
+-- an access that adds nothing
 pub weighed-plain : (table : Table) (a : Access) (i : ℕ) (r : Terms) → a.ceiling ≡ 0 → Weighed table i r → WeighedUnder table a i r
 weighed-plain table a i r e p = joined table a i 0 r (omega arith) p.long (has-none _ _) p.terms
 
@@ -181,6 +181,30 @@ pub plain-longer : (table : Table) (i c d : ℕ) {counts : List Count} → Accep
     → Started c (plain_of table) i counts → Started d (plain_of table) i counts
 plain-longer table i c d accepted here h =
     started-harder c d i _ _ _ (plain-ranged table i accepted here) (λ j l. no-more-self _ (plain-ranged table i accepted here j l)) (λ j l. (refl, refl)) h
+
+-- the search without reloads, where none blocks
+module _ (table : Table) (i : ℕ) (accepted : AcceptedTable table) (here : i < table.count) (r : Terms) (weighed : Weighed table i r) where
+  alone : (at table i).work.0 + 0 ≡ (at table i).work.0
+  alone = omega arith
+
+  under-none : WeighedUnder table empty_access i r
+  under-none = weighed-plain table empty_access i r refl weighed
+
+  pub plain-handed : Handed (at table i).work.0 (take i r.none) (limit_of (at table i))
+  plain-handed =
+      subst (λ (own : ℕ). Handed own (take i r.none) (limit_of (at table i))) alone (row-handed table empty_access i accepted here (plain-blocks i) r under-none None)
+
+  module _ {counts : List Count} where
+    pub plain-first : Started (at table i).work.0 (plain_of table) i counts → Started (at table i).work.0 (term_in (take i r.none)) (length (take i r.none)) counts
+    plain-first p =
+        subst (λ (own : ℕ). Started own (term_in (take i r.none)) (length (take i r.none)) counts) alone
+        (first table empty_access i accepted here (plain-blocks i) r under-none (subst (λ (own : ℕ). Started own (plain_of table) i counts) (sym alone) p))
+
+    pub plain-left : Started (at table i).work.0 (term_in (take i r.none)) (length (take i r.none)) counts → Started (at table i).work.0 (plain_of table) i counts
+    plain-left p =
+        subst (λ (own : ℕ). Started own (plain_of table) i counts) alone
+        (left table empty_access i accepted here (plain-blocks i) r under-none
+        (subst (λ (own : ℕ). Started own (term_in (take i r.none)) (length (take i r.none)) counts) (sym alone) p))
 
 -- the longest so far of the first n accesses that may block
 abbrev pub LongestOf : Table → ℕ → ℕ → ℕ → Option ℕ → Type 0
@@ -221,7 +245,7 @@ module _ (table : Table) (i : ℕ) (accepted : AcceptedTable table) where
         → Passed table i first table.access_count s → Answered table i s
     answered-all first h e p = record { each = λ m. from-all table i m accepted first h e (p.over m) }
 
-  pub answered-plain : blocking i (accesses_of table) ≡ [] → {r : Answers} → WithOne table (plain_access (at table i)) i first_answers r → Answered table i r
+  pub answered-plain : blocking i (accesses_of table) ≡ [] → {r : Answers} → WithOne table empty_access i first_answers r → Answered table i r
   answered-plain e w = record { each = λ m. from-plain table i m e (rw (first-is m) at (w.each m)) }
 
 -- ---- on from the task above
@@ -234,15 +258,13 @@ module _ (table : Table) (i : ℕ) (accepted : AcceptedTable table) (here : i < 
   pub none-ranged : (r : Terms) → Weighed table i r → (j : ℕ) → j < i → InRange (term_in r.none j)
   none-ranged r p j l = rw (none-at table i r p j l) (plain-ranged table i accepted here j l)
 
-  -- where the work of the task above makes up for what it is blocked for longer
-  pub carried_on : (r : Terms) → Weighed table i r → (counts : List Count) (c : Count) (k : ℕ) → i ≡ k + 1
-      → own_of (at table k) ≤ own_of (at table i) + (at table k).work.0 → c ≡ once (term_in r.none k) → Left table i counts
-      → Started (own_of (at table i)) (plain_of table) i (set counts k c)
-  carried_on r p counts c k e enough is left =
+  -- the work of the task above is all that it asks for
+  pub carried_on : (counts : List Count) (c : Count) (k : ℕ) → i ≡ k + 1 → c ≡ once (plain_of table k) → Left table i counts
+      → Started (at table i).work.0 (plain_of table) i (set counts k c)
+  carried_on counts c k e is left =
       let q = accepted.tasks i here in
-      let new : c ≡ once (plain_of table k) = is ∙ ap once (none-at table i r p k (omega arith)) in
-      rw new (
-      subst (λ (n : ℕ). Started (own_of (at table i)) (plain_of table) n (set counts k (once (plain_of table k)))) (sym e)
+      rw is (
+      subst (λ (n : ℕ). Started (at table i).work.0 (plain_of table) n (set counts k (once (plain_of table k)))) (sym e)
       (started-next _ _ k (plain_of table) counts (omega (arith, left.long, accepted.few)) (omega (arith, q.work)) (omega arith)
       (λ j l. plain-ranged table i accepted here j (omega arith)) (left.above k e))
       )
@@ -263,7 +285,7 @@ row-is table i s r p e =
 pub left-none : (table : Table) (counts : List Count) → length counts ≡ 32 → Left table 0 counts
 left-none table counts h = record { long = h; above = λ k e. absurd (omega arith) }
 
-pub left-next : (table : Table) (i : ℕ) (counts : List Count) → length counts ≡ 32 → Started (own_of (at table i)) (plain_of table) i counts
+pub left-next : (table : Table) (i : ℕ) (counts : List Count) → length counts ≡ 32 → Started (at table i).work.0 (plain_of table) i counts
     → Left table (i + 1) counts
 left-next table i counts h p = record {
   long = h;

@@ -14,7 +14,7 @@ use Rattle.search.specs.Least.{least_of, sooner, latest_of}
 use Rattle.search.proofs.PositionLaws.{fold_same}
 use Rattle.search.proofs.DemandLaws.{demand-same}
 use Rattle.table.specs.declared.accesses.Access.{Access}
-use Rattle.table.specs.Accesses.{added_by, or_else, plain_access}
+use Rattle.table.specs.Accesses.{added_by, or_else, empty_access}
 use Rattle.table.specs.declared.tasks.Task.{Task}
 use Rattle.table.specs.Tasks.{limit_of}
 use Rattle.table.specs.declared.Table.{Table}
@@ -91,7 +91,7 @@ module _ (i : ℕ) (first second : Table) (same : SameDownTo i first second) whe
       ∙ ap (λ (t : Task). least_of (demand_of (t.work.0 + a.lasts.0) (term_under second a m i) i) (limit_of t)) (same.tasks i (omega arith))
 
   blockers-same : blockers_of first i ≡ blockers_of second i
-  blockers-same = ap₂ (λ (t : Task) (l : List Access). or_else (plain_access t) l) (same.tasks i (omega arith)) same.accesses
+  blockers-same = ap (or_else empty_access) same.accesses
 
   answer-same : (m : Single) → answer_of first m i ≡ answer_of second m i
   unfolding answer_of

@@ -1,5 +1,5 @@
 -- Facts about the terms of a row that are put in.
-use Rattle.std.proofs.Common.{ℕ, ◌+◌, ◌≤◌, ◌<◌, zero-le, arith, ◌≡◌, sym, ap, ◌∙◌, below_more, set, length-set, get_or-set_same, get_or-set_other}
+use Rattle.std.proofs.Common.{ℕ, ◌+◌, ◌≤◌, ◌<◌, zero-le, arith, ◌≡◌, sym, ap, ◌∙◌, below_more, length-set, get_or-set_same, get_or-set_other}
 use Rattle.std.proofs.Math.Decide.{dec_lt}
 use Rattle.search.specs.declared.demand.Term.{Term}
 use Rattle.search.specs.Demand.{term_of}
@@ -7,7 +7,6 @@ use Rattle.search.specs.Terms.{term_in}
 use Rattle.table.specs.declared.accesses.Access.{Access}
 use Rattle.table.specs.declared.Table.{Table}
 use Rattle.analysis.specs.declared.costs.Single.{Single}
-use Rattle.analysis.specs.declared.costs.Single.TheVariants.{None, EcbOnly, UcbOnly, UcbUnion, EcbUnion}
 use Rattle.analysis.specs.declared.costs.Charge.{Charge}
 use Rattle.analysis.specs.Costs.{reloads_in, reloads_of, reloads_with, term_with, term_at, term_under}
 use Rattle.analysis.proofs.CostLaws.{charge-past}

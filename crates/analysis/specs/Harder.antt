@@ -9,14 +9,13 @@ use Rattle.table.specs.declared.accesses.Access.{Access}
 use Rattle.table.specs.declared.Table.{Table}
 use Rattle.table.specs.Tables.{ways_in, at, access_at}
 
--- where there are so many ways: no less work, jitter and blocking, no longer a period and a deadline, no fewer useful blocks in any cache set, and every
+-- where there are so many ways: no less work and jitter, no longer a period and a deadline, no fewer useful blocks in any cache set, and every
 -- evicting set of the other
 pub record HarderTask (ways : ℕ) (a b : Task) : Type 0 where
   pub work : a.work.0 ≤ b.work.0
   pub period : b.period.0 ≤ a.period.0
   pub deadline : b.deadline.0 ≤ a.deadline.0
   pub jitter : a.jitter.0 ≤ b.jitter.0
-  pub blocking : a.blocking.0 ≤ b.blocking.0
   pub ucb : counts ways a.ucb ≼ counts ways b.ucb
   pub ecb : members a.ecb ⊆ members b.ecb
 

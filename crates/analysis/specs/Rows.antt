@@ -7,7 +7,7 @@ use Rattle.search.specs.declared.demand.Response.TheVariants.{Unschedulable}
 use Rattle.search.specs.Least.{sooner, later, NoLater}
 use Rattle.search.specs.declared.response.Count.{Count}
 use Rattle.search.specs.Counts.{Started}
-use Rattle.table.specs.Tasks.{own_of, limit_of}
+use Rattle.table.specs.Tasks.{limit_of}
 use Rattle.table.specs.declared.accesses.Access.{Access}
 use Rattle.table.specs.declared.Table.{Table}
 use Rattle.table.specs.Tables.{at}
@@ -66,4 +66,4 @@ plain_of table j = term_with table j 0
 -- what the search for the task above i leaves
 pub record Left (table : Table) (i : ℕ) (counts : List Count) : Type 0 where
   pub long : length counts ≡ 32
-  pub above : (k : ℕ) → i ≡ k + 1 → Started (own_of (at table k)) (plain_of table) k counts
+  pub above : (k : ℕ) → i ≡ k + 1 → Started (at table k).work.0 (plain_of table) k counts

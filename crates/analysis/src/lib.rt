@@ -29,8 +29,8 @@ use crate::costs::{Charge, Single};
 use cache::units::Ticks;
 use search::demand::{Response, Term};
 use search::response;
+use table::Table;
 use table::accesses::Access;
-use table::{Table, accesses};
 
 // The six methods.
 #[derive(Clone, Copy)]
@@ -132,7 +132,7 @@ pub fn longest(table: &Table, i: usize) -> Option<usize>
     found
 }
 
-// The latest of these answers within the task's limit over the accesses that may block it, and where none may, the answer with its B.
+// The latest of these answers within the task's limit over the accesses that may block it, and where none may, the answer by its own work alone.
 fn latest(table: &Table, method: Single, i: usize) -> Response
     requires { AcceptedTable table.now × (i < table.now.count) }
     ensures { result ≡ answer_of table.now method i }
@@ -142,8 +142,7 @@ fn latest(table: &Table, method: Single, i: usize) -> Response
     let row = one_row::charged(table, method, i);
     let any = Response::Within(Ticks(0));
     let Some(first) = longest(table, i) else {
-        let plain = accesses::plain_access(task);
-        return later_under(table, method, i, limit, &row, &plain, any);
+        return later_under(table, method, i, limit, &row, &Access::NONE, any);
     };
     let access = &table.accesses[first];
     let mut latest = later_under(table, method, i, limit, &row, access, any);

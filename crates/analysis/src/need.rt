@@ -12,8 +12,8 @@ use crate::costs::{Charge, Single};
 use crate::{Method, one_row};
 use cache::units::Ticks;
 use search::demand::Response;
+use table::Table;
 use table::accesses::Access;
-use table::{Table, accesses};
 
 // How far a need is looked for: no deadline is later.
 const FURTHEST: Ticks = Ticks(250000000);
@@ -124,7 +124,7 @@ fn need_under(table: &Table, method: Single, i: usize) -> Need
             method,
             i,
             &row,
-            &accesses::plain_access(table.task(i)),
+            &Access::NONE,
             Response::Within(Ticks(0)),
         ),
     }

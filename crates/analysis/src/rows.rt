@@ -7,21 +7,20 @@ ghost use Rattle.search.specs.Demand.{demand_of};
 ghost use Rattle.search.specs.Terms.{term_in, Handed};
 ghost use Rattle.search.specs.Least.{least_of, later};
 ghost use Rattle.search.specs.Counts.{Started};
-ghost use Rattle.table.specs.Tasks.{own_of};
 ghost use Rattle.table.specs.Tables.{at};
 ghost use Rattle.table.specs.Accepted.{AcceptedTable};
 ghost use Rattle.analysis.specs.Carried.{Ledger, Weighed, WeighedUnder};
 ghost use Rattle.analysis.specs.Analysis.{Blocks};
 ghost use Rattle.analysis.specs.Rows.{Answered, Rising, WithOne, row_told, plain_of, Left, no_row, row_of};
 
-use crate::carried;
 use crate::carried::{Column, Terms};
-use cache::units::Ticks;
+use crate::{carried, costs};
+use cache::units::{Reloads, Ticks};
 use search::demand::{Response, Row, Term};
 use search::response;
 use search::response::Count;
+use table::Table;
 use table::accesses::Access;
-use table::{Table, accesses};
 
 // The answers for one task under the methods that count.
 #[derive(Clone, Copy)]
@@ -175,8 +174,8 @@ fn under(
     by_row(table, i, access, &joined, so_far, &mut these)
 }
 
-// The answers for the task at i: the latest over the accesses that may block it, and where none may, those with its B. `counts` are left as by the search
-// without reloads and without an access.
+// The answers for the task at i: the latest over the accesses that may block it, and where none may, those by its own work alone. `counts` are left as by the
+// search without reloads and without an access.
 fn over_all(
     table: &Table,
     i: usize,
@@ -187,20 +186,18 @@ fn over_all(
     requires table { AcceptedTable table.now × (i < table.now.count) }
     requires ledger { Ledger table.now (i + 1) ledger.now }
     requires weighed { Weighed table.now i terms.now }
-    requires started { Started (own_of (at table.now i)) (plain_of table.now) i counts.old }
+    requires started { Started (at table.now i).work.0 (plain_of table.now) i counts.old }
     ensures answered { Answered table.now i result }
-    ensures started { Started (own_of (at table.now i)) (plain_of table.now) i counts.new }
+    ensures started { Started (at table.now i).work.0 (plain_of table.now) i counts.new }
 {
-    let task = table.task(i);
-    let plain = accesses::plain_access(task);
     if table.access_count == 0 {
-        return by_row(table, i, &plain, terms, Answers::FIRST, counts);
+        return by_row(table, i, &Access::NONE, terms, Answers::FIRST, counts);
     }
-    let own = Ticks(task.work.0 + task.blocking.0);
+    let task = table.task(i);
     let limit = Ticks(task.deadline.0 - task.jitter.0);
-    response::least(own, &terms.none[..i], limit, counts);
+    response::least(task.work, &terms.none[..i], limit, counts);
     let Some(first) = crate::longest(table, i) else {
-        return by_row(table, i, &plain, terms, Answers::FIRST, counts);
+        return by_row(table, i, &Access::NONE, terms, Answers::FIRST, counts);
     };
     let access = &table.accesses[first];
     let mut latest = under(table, i, ledger, terms, access, Answers::FIRST, counts);
@@ -216,23 +213,16 @@ fn over_all(
 }
 
 // Makes `counts`, as the search for the task above left them, what the one for the task at i starts from. It has the work of the task above in its demand,
-// so it is answered no sooner, unless that task is blocked for longer than this makes up for.
-fn carry_on(table: &Table, i: usize, terms: &Terms, counts: &mut [Count; 32])
+// so it is answered no sooner.
+fn carry_on(table: &Table, i: usize, counts: &mut [Count; 32])
     requires table { AcceptedTable table.now × (i < table.now.count) }
-    requires weighed { Weighed table.now i terms.now }
     requires left { Left table.now i counts.old }
-    ensures { Started (own_of (at table.now i)) (plain_of table.now) i counts.new }
+    ensures { Started (at table.now i).work.0 (plain_of table.now) i counts.new }
 {
     if i == 0 {
         return;
     }
-    let task = table.task(i);
-    let above = table.task(i - 1);
-    if task.work.0 + task.blocking.0 + above.work.0 < above.work.0 + above.blocking.0 {
-        *counts = response::firsts(&terms.none[..i]);
-        return;
-    }
-    counts[i - 1] = Count::once(terms.none[i - 1]);
+    counts[i - 1] = Count::once(costs::term(table, i - 1, Reloads(0)));
 }
 
 // The responses of every task of a table under every method.
@@ -248,7 +238,7 @@ pub fn responses(table: &Table) -> [Row; 32]
     }; 32];
     for i in 0..table.count {
         carried::weigh_row(table, i, &mut ledger, &mut terms);
-        carry_on(table, i, &terms, &mut counts);
+        carry_on(table, i, &mut counts);
         rows[i] = over_all(table, i, &ledger, &terms, &mut counts).row();
     }
     rows

@@ -12,7 +12,7 @@ use Rattle.cache.specs.Words.{number_of, members, words_of}
 use Rattle.table.specs.Rows.{unless_fault}
 use Rattle.table.specs.HeadLine.{is_head, read_form, head_in_range}
 use Rattle.table.specs.TaskLine.{times_in_range, times_in_order, task_said, task_rows}
-use Rattle.table.specs.Reading.{ended, read_from, read_lines, read_text}
+use Rattle.table.specs.Reading.{ended, first_blocked, unless_blocked, read_from, read_lines, read_text}
 use Rattle.table.specs.Tables.{at}
 use Rattle.search.specs.Demand.{demand_of}
 use Rattle.search.specs.Least.{first_of, least_of}
@@ -39,7 +39,7 @@ pub printed-of-counted-a : printed counted ≡
     82 ∷ 9 ∷ 98 ∷ 9 ∷ 52 ∷ 48 ∷ 9 ∷ 51 ∷ 9 ∷ 55 ∷ 9 ∷ 53 ∷ 9 ∷ 53 ∷ 9 ∷ 53 ∷ 9 ∷ 53 ∷ 10 ∷
     82 ∷ 9 ∷ 99 ∷ 9 ∷ 54 ∷ 48 ∷ 9 ∷ 53 ∷ 9 ∷ 49 ∷ 51 ∷ 9 ∷ 57 ∷ 9 ∷ 49 ∷ 49 ∷ 9 ∷ 57 ∷ 9 ∷ 57 ∷ 10 ∷
     86 ∷ 9 ∷ 121 ∷ 101 ∷ 115 ∷ 9 ∷ 121 ∷ 101 ∷ 115 ∷ 9 ∷ 121 ∷ 101 ∷ 115 ∷ 9 ∷ 121 ∷ 101 ∷ 115 ∷ 9 ∷ 121 ∷ 101 ∷ 115 ∷ 9 ∷ 121 ∷ 101 ∷ 115 ∷ 10 ∷ []
-unfolding printed up_to lines read_digits read_number has_shape is_name hex_digit read_hex read_set ∅ ◌∪◌ ◌∩◌ size_below size number_of members words_of unless_fault head_in_range times_in_range times_in_order task_said task_rows ended read_from read_lines read_text at demand_of first_of least_of run fold_by reloads_with answer_of response_of digits_of spelled response_line verdict_line report_of is_head read_form read_useful within_ways nothing of_set ◌⊕◌ capped ◌on◌ total_below total heights push read_counts above number_below
+unfolding printed up_to lines read_digits read_number has_shape is_name hex_digit read_hex read_set ∅ ◌∪◌ ◌∩◌ size_below size number_of members words_of unless_fault head_in_range times_in_range times_in_order task_said task_rows ended first_blocked unless_blocked read_from read_lines read_text at demand_of first_of least_of run fold_by reloads_with answer_of response_of digits_of spelled response_line verdict_line report_of is_head read_form read_useful within_ways nothing of_set ◌⊕◌ capped ◌on◌ total_below total heights push read_counts above number_below
 printed-of-counted-a = refl
 
 -- K 4 1 2; T a 1 20 20 0 0 0000 f; T b 2 40 40 0 0 0013 f
@@ -51,5 +51,5 @@ above_ways =
 
 -- E 18 3
 pub count-above-ways : printed above_ways ≡ 69 ∷ 9 ∷ 49 ∷ 56 ∷ 9 ∷ 51 ∷ 10 ∷ []
-unfolding printed up_to lines read_digits read_number has_shape is_name hex_digit read_hex read_set ∅ ◌∪◌ ◌∩◌ size_below size number_of members words_of unless_fault head_in_range times_in_range times_in_order task_said task_rows ended read_from read_lines read_text at demand_of first_of least_of run fold_by reloads_with answer_of response_of digits_of spelled response_line verdict_line report_of is_head read_form read_useful within_ways nothing of_set ◌⊕◌ capped ◌on◌ total_below total heights push read_counts above number_below error_text
+unfolding printed up_to lines read_digits read_number has_shape is_name hex_digit read_hex read_set ∅ ◌∪◌ ◌∩◌ size_below size number_of members words_of unless_fault head_in_range times_in_range times_in_order task_said task_rows ended first_blocked unless_blocked read_from read_lines read_text at demand_of first_of least_of run fold_by reloads_with answer_of response_of digits_of spelled response_line verdict_line report_of is_head read_form read_useful within_ways nothing of_set ◌⊕◌ capped ◌on◌ total_below total heights push read_counts above number_below error_text
 count-above-ways = refl

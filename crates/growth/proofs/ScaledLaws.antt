@@ -25,7 +25,7 @@ scaled-tasks k table = take-map (scaled_task k) table.count table.tasks
 pub unworked : (k : ℕ) (t : Task) → t.work.0 ≡ 0 → scaled_task k t ≡ t
 unworked k t e =
     let zero : scaled_work k t.work.0 ≡ t.work.0 = rw (e, zero-mul k) refl in
-    λ i. record { name = t.name; work = record { 0 = zero i }; period = t.period; deadline = t.deadline; jitter = t.jitter; blocking = t.blocking; ucb = t.ucb; ecb = t.ecb }
+    λ i. record { name = t.name; work = record { 0 = zero i }; period = t.period; deadline = t.deadline; jitter = t.jitter; ucb = t.ucb; ecb = t.ecb }
 
 -- the task at a place, be it past the last one
 pub scaled-place : (k : ℕ) (ts : List Task) (j : ℕ) → get_or (map (scaled_task k) ts) j blank ≡ scaled_task k (get_or ts j blank)
@@ -73,7 +73,6 @@ with_c t work = record {
   period = t.period;
   deadline = t.deadline;
   jitter = t.jitter;
-  blocking = t.blocking;
   ucb = t.ucb;
   ecb = t.ecb;
 }
@@ -117,7 +116,6 @@ harder-task ways t k l h = record {
   period = omega arith;
   deadline = omega arith;
   jitter = omega arith;
-  blocking = omega arith;
   ucb = λ s. le_refl (counts ways t.ucb s);
   ecb = λ s m. m;
 }

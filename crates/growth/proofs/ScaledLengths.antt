@@ -115,7 +115,6 @@ module _ (table : Table) where
         period = t.period;
         deadline = t.deadline;
         jitter = t.jitter;
-        blocking = t.blocking;
         ucb = t.ucb;
         ecb = t.ecb;
       }

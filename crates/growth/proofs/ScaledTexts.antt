@@ -1,9 +1,8 @@
 -- When the text of a scaled table is accepted: just where no C is scaled beyond the longest, and then as that table.
-use Rattle.std.proofs.Common.{◌≡◌, ℕ, zero, suc, ◌+◌, ◌-◌, ◌≤◌, ◌<◌, Bool, true, not, cond, ◌||◌, List, [], ◌∷◌, ◌++◌, length, take, get_or, map, flat_map, replicate, refl, sym, ap, ap₂, ◌∙◌, arith, subst, Some, Result, Ok, le-leb}
+use Rattle.std.proofs.Common.{◌≡◌, ℕ, zero, suc, ◌+◌, ◌-◌, ◌≤◌, ◌<◌, Bool, true, not, cond, ◌||◌, List, [], ◌∷◌, ◌++◌, length, take, get_or, map, flat_map, replicate, refl, sym, ap, ap₂, ◌∙◌, arith, subst, Some, Result, Ok, ltb, le-leb}
 use Rattle.std.proofs.Math.ListN.{length-map}
 use Rattle.std.proofs.lemmas.List.{map-append}
 use Rattle.std.proofs.lemmas.List.Elements.{All-append, All-replicate}
-use Rattle.std.specs.Prelude.{is_ok}
 use Rattle.std.specs.List.{All}
 use Rattle.table.specs.Cut.{fields, lines}
 use Rattle.table.specs.Fields.{read_digits}
@@ -20,7 +19,7 @@ use Rattle.table.specs.Accesses.{empty_access}
 use Rattle.table.specs.declared.Table.{Table}
 use Rattle.table.specs.Tables.{at}
 use Rattle.table.specs.Accepted.{AcceptedTable}
-use Rattle.table.specs.Reading.{is_blocked, first_blocked, ended, read_text}
+use Rattle.table.specs.Reading.{read_text}
 use Rattle.writing.specs.Text.{spelled}
 use Rattle.writing.specs.Marks.{useful_text}
 use Rattle.table.specs.declared.refusals.Refusal.{Refusal}
@@ -44,12 +43,12 @@ pub record Lists (table : Table) : Type 0 where
   pub accesses : List Access
   pub is : table ≡ table_of head tasks accesses
   pub passed : Passed head tasks accesses
-  pub ends : is_ok (ended (table_of head tasks accesses)) ≡ true
+  pub some : ltb 0 (length tasks) ≡ true
 
 pub lists : (table : Table) → Readable table → Lists table
 lists table (text, e) =
     let r = (text-read text table e).1 in
-    record { head = r.head; tasks = r.tasks; accesses = r.others; is = r.is; passed = r.passed; ends = ap (λ (t : Table). is_ok (ended t)) (sym r.is) ∙ r.ends }
+    record { head = r.head; tasks = r.tasks; accesses = r.others; is = r.is; passed = r.passed; some = ap (λ (t : Table). ltb 0 t.count) (sym r.is) ∙ r.ends }
 
 -- no task that a line can say has a C above the longest
 work-small : (form : Form) (sets : ℕ) (ts : List Task) → are_next form sets [] ts ≡ true → (j : ℕ) (d : Task) → j < length ts → (get_or ts j d).work.0 ≤ 250000000
@@ -79,19 +78,11 @@ module _ (k : ℕ) where
   knows-scaled n [] = refl
   knows-scaled n (t ∷ ts) = ap (λ (b : Bool). has_name n t || b) (knows-scaled n ts)
 
-  blocked-scaled : (ts : List Task) → first_blocked (map (scaled_task k) ts) ≡ first_blocked ts
-  blocked-scaled [] = refl
-  blocked-scaled (t ∷ ts) = ap (λ (n : ℕ). cond (not (is_blocked t)) (1 + n) 0) (blocked-scaled ts)
-
   replicate-scaled : (n : ℕ) → map (scaled_task k) (replicate n empty_task) ≡ replicate n empty_task
   replicate-scaled zero = refl
   replicate-scaled (suc n) = ap₂ (λ (t : Task) (ts : List Task). t ∷ ts) (unworked k empty_task refl) (replicate-scaled n)
 
   module _ (h : Head) (ts : List Task) (accesses : List Access) where
-    ended-scaled : ended (table_of h (map (scaled_task k) ts) accesses) ≡ ended (table_of h ts accesses)
-    unfolding ended
-    ended-scaled = rw (its-tasks h (map (scaled_task k) ts) accesses, its-tasks h ts accesses, length-map ts (scaled_task k), blocked-scaled ts)
-
     -- a table of lists is scaled to that of the scaled tasks
     scaled-lists : scaled_by k (table_of h ts accesses) ≡ table_of h (map (scaled_task k) ts) accesses
     unfolding scaled_by
@@ -207,7 +198,7 @@ module _ (table : Table) (readable : Readable table) (k : ℕ) (some : 1 ≤ k) 
   is-readable : FitsBy k table → length (table_text (scaled_by k table)) ≤ 16384 → is_readable (scaled_by k table) ≡ true
   is-readable fits short =
       ap is_readable scaled-is
-      ∙ lists-readable r.head ts r.accesses (passed-scaled fits) (ap (λ (e : Result (Unit {0}) Refusal). is_ok e) (ended-scaled k r.head r.tasks r.accesses) ∙ r.ends)
+      ∙ lists-readable r.head ts r.accesses (passed-scaled fits) (ap (ltb 0) long ∙ r.some)
       (rw scaled-is at short)
 
   whole-scaled : Whole (scaled_by k table)

@@ -1,4 +1,4 @@
--- A table whose execution times are scaled by k thousandths: each C becomes ⌈C × k / 1000⌉, and all else stays, B and the lengths of accesses as well.
+-- A table whose execution times are scaled by k thousandths: each C becomes ⌈C × k / 1000⌉, and all else stays, the lengths of accesses as well.
 use Rattle.std.specs.Prelude.{ℕ, ◌*◌, ◌≤◌, ◌<◌, ◌≡◌, map, length}
 use Rattle.std.specs.List.{All}
 use Rattle.search.specs.Demand.{ceil}
@@ -18,7 +18,6 @@ scaled_task k t = record {
   period = t.period;
   deadline = t.deadline;
   jitter = t.jitter;
-  blocking = t.blocking;
   ucb = t.ucb;
   ecb = t.ecb;
 }

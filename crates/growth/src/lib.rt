@@ -177,15 +177,14 @@ fn under(
     }
 }
 
-// The greatest k up to `most` at which the task at i has a response whichever access blocks it that may, and where none may with its B.
+// The greatest k up to `most` at which the task at i has a response whichever access blocks it that may, and where none may by its own work alone.
 fn over_blockers(table: &Table, method: Single, i: usize, most: u64, likely: &mut Ticks) -> u64
     requires { Stretches table.now most × (i < table.now.count) }
     ensures { Bounds (λ k. has_response (answer_of (scaled_by k table.now) method i)) most result }
 {
     let row = one_row::charged(table, method, i);
     let Some(first) = analysis::longest(table, i) else {
-        let plain = accesses::plain_access(table.task(i));
-        return under(table, method, i, &row, &plain, most, likely);
+        return under(table, method, i, &row, &Access::NONE, most, likely);
     };
     let access = &table.accesses[first];
     let mut left = under(table, method, i, &row, access, most, likely);

@@ -13,7 +13,7 @@ use Rattle.search.specs.Least.{least_of, sooner, latest_of}
 use Rattle.table.specs.declared.tasks.Task.{Task}
 use Rattle.table.specs.Tasks.{limit_of, blank}
 use Rattle.table.specs.declared.accesses.Access.{Access}
-use Rattle.table.specs.Accesses.{added_by, blocking, or_else, plain_access}
+use Rattle.table.specs.Accesses.{added_by, blocking, or_else, empty_access}
 use Rattle.table.specs.declared.Table.{Table}
 use Rattle.table.specs.Tables.{ways_in, tasks_of, at, accesses_of}
 use Rattle.analysis.specs.declared.costs.Single.{Single}
@@ -36,7 +36,7 @@ answer_by ways T brt accesses m i =
     (λ j. term_of (T j).period.0 (T j).jitter.0 ((T j).work.0 + brt.0 * reloads_with ways (λ k. counts ways (T k).ucb) (λ k. members (T k).ecb) (added_by ways a j) a.task m i j))
     i)
     (limit_of (T i)))
-    (or_else (plain_access (T i)) (blocking i accesses)))
+    (or_else empty_access (blocking i accesses)))
 
 module _ (figure table : Table) (like : IsTableOf figure table) where
   abbrev tasks_here : ℕ → Task

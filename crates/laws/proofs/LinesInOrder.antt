@@ -12,7 +12,7 @@ use Rattle.cache.specs.Words.{number_of, members, words_of}
 use Rattle.table.specs.Rows.{unless_fault}
 use Rattle.table.specs.HeadLine.{is_head, read_form, head_in_range}
 use Rattle.table.specs.TaskLine.{times_in_range, times_in_order, task_said, task_rows}
-use Rattle.table.specs.Reading.{ended, read_from, read_lines, read_text}
+use Rattle.table.specs.Reading.{ended, first_blocked, unless_blocked, read_from, read_lines, read_text}
 use Rattle.table.specs.Tables.{at}
 use Rattle.search.specs.Demand.{demand_of}
 use Rattle.search.specs.Least.{first_of, least_of}
@@ -27,5 +27,5 @@ use Rattle.laws.specs.Lines.{as_given, report_as_given, changed_round, report_ch
 
 -- as given b has the response 5 and a has 2; changed round b has 3 and a has 5
 pub lines-in-order : (printed as_given ≡ report_as_given) × (printed changed_round ≡ report_changed_round)
-unfolding printed up_to lines read_digits read_number has_shape is_name hex_digit read_hex read_set ∅ ◌∪◌ ◌∩◌ size_below size number_of members words_of unless_fault head_in_range times_in_range times_in_order task_said task_rows ended read_from read_lines read_text at demand_of first_of least_of run fold_by reloads_with answer_of response_of digits_of spelled response_line verdict_line report_of is_head read_form read_useful within_ways nothing of_set ◌⊕◌ capped ◌on◌ total_below total heights
+unfolding printed up_to lines read_digits read_number has_shape is_name hex_digit read_hex read_set ∅ ◌∪◌ ◌∩◌ size_below size number_of members words_of unless_fault head_in_range times_in_range times_in_order task_said task_rows ended first_blocked unless_blocked read_from read_lines read_text at demand_of first_of least_of run fold_by reloads_with answer_of response_of digits_of spelled response_line verdict_line report_of is_head read_form read_useful within_ways nothing of_set ◌⊕◌ capped ◌on◌ total_below total heights
 lines-in-order = (refl, refl)

@@ -24,7 +24,7 @@ pub struct NeedAndResponse {
     pub response: Response,
 }
 
-// C and B as they are shown, and for each task above its activations in `r` ticks, each with its work and the time of its reloads.
+// C and the length as they are shown, and for each task above its activations in `r` ticks, each with its work and the time of its reloads.
 fn total_of(table: &Table, need: &Need, i: usize, r: u64) -> u64
     requires { (r ≤ 250000000) × Grounds table.now need.now i }
     ensures { result ≡ sum_of table.now need.now i r }

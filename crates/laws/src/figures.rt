@@ -9,7 +9,7 @@ use analysis::costs::{Charge, Single};
 use analysis::{Method, blocked_row, one_row};
 use search::demand::Response;
 use table::Table;
-use table::accesses::plain_access;
+use table::accesses::Access;
 
 // The response of the task at i. Where there is a figure of it, it is that one.
 pub fn response(table: &Table, method: Method, i: usize) -> Response
@@ -27,7 +27,6 @@ pub fn charge(table: &Table, method: Single, i: usize, j: usize) -> Charge
     ensures figure { IsChargeFigured table.now method i j result }
 {
     let mut row = one_row::charged(table, method, i);
-    let plain = plain_access(table.task(i));
-    blocked_row::join(table, method, i, &plain, &mut row);
+    blocked_row::join(table, method, i, &Access::NONE, &mut row);
     row[j]
 }

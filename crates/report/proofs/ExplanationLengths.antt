@@ -1,4 +1,4 @@
--- How long an explanation can be. C, B and the activations add up to no more than the need, so not all of them can be long.
+-- How long an explanation can be. C, the length of the access and the activations add up to no more than the need, so not all of them can be long.
 use Rattle.std.proofs.Common.{ℕ, zero, suc, ◌+◌, ◌*◌, ◌≤◌, ◌<◌, zero-le, mul-le-mul_left, add-one, arith, ◌≡◌, refl, sym, ap, ◌∙◌, length, length-append}
 use Rattle.std.proofs.Math.Decide.{dec_lt}
 use Rattle.std.specs.Prelude.{List, [], ◌++◌, flat_map}

@@ -5,7 +5,7 @@ use Rattle.table.specs.declared.tasks.Task.{Task}
 use Rattle.table.specs.declared.Table.{Table}
 use Rattle.table.specs.Tables.{at, accesses_of, access_at}
 use Rattle.table.specs.Accepted.{AcceptedTable}
-use Rattle.table.specs.Accesses.{plain_access, blank_access, may_block, blocking}
+use Rattle.table.specs.Accesses.{empty_access, blank_access, may_block, blocking}
 use Rattle.table.proofs.BlockingLaws.{Every, every-as, every_of, every-blocking, every-or}
 use Rattle.analysis.specs.Analysis.{blockers_of, least_under}
 use Rattle.analysis.proofs.AnswerLaws.{plain-blocks, access-blocks}
@@ -27,8 +27,8 @@ module _ (table : Table) (accepted : AcceptedTable table) (i : ℕ) (held : i < 
   every : Every (Blocker table i) (blockers_of table i)
   unfolding access_at
   every =
-      every-or (Blocker table i) (plain_access (at table i)) (blocking i (accesses_of table))
-      (record { blocks = plain-blocks table i accepted held; task = accepted.some })
+      every-or (Blocker table i) empty_access (blocking i (accesses_of table))
+      (record { blocks = plain-blocks i; task = accepted.some })
       (every-blocking (Blocker table i) i (accesses_of table)
       (every_of (λ a. may_block i a ≡ true → Blocker table i a) (accesses_of table) blank_access
       (λ n h e.

@@ -32,7 +32,7 @@ method_number UcbOnly = 2
 method_number UcbUnion = 3
 method_number EcbUnion = 4
 
--- the first line: `X`, name, method explained, need, D − J, C, and as B how long the task is blocked
+-- the first line: `X`, name, method explained, need, D − J, C, and for how long an access blocks the task, 0 where none does
 unfoldable pub need_line : Task → Need → List ℕ
 need_line t need =
     line_of (88 ∷ [])

@@ -1,5 +1,5 @@
 -- Whether line 1 has its shape, told from its fields.
-use Rattle.std.proofs.Common.{ℕ, suc, ◌≡◌, refl, Bool, true, false, ◌||◌, List, [], ◌∷◌, ◌⊎◌, inl, inr, arith, length}
+use Rattle.std.proofs.Common.{ℕ, suc, ◌≡◌, refl, Bool, true, false, ◌||◌, List, [], ◌∷◌, ◌⊎◌, inl, inr, length}
 use Rattle.std.specs.Str.{bytes_eq}
 use Rattle.table.specs.Cut.{fields}
 use Rattle.table.specs.HeadLine.{is_head}

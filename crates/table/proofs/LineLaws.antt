@@ -18,24 +18,21 @@ pub record Ranges (t : Times) : Type 0 where
   pub work : (1 ≤ t.work.0) × (t.work.0 ≤ 250000000)
   pub period : (1 ≤ t.period.0) × (t.period.0 ≤ 250000000)
   pub deadline : (1 ≤ t.deadline.0) × (t.deadline.0 ≤ 250000000)
-  pub blocking : t.blocking.0 ≤ 250000000
 
 pub ranges : (t : Times) → times_in_range t ≡ true → Ranges t
 unfolding times_in_range
-ranges t e5 =
+ranges t e4 =
     let c = is_within 1 250000000 t.work.0 in
     let p = is_within 1 250000000 t.period.0 in
     let d = is_within 1 250000000 t.deadline.0 in
     let j = is_within 0 250000000 t.jitter.0 in
-    let e4 = both (c && p && d && j) (is_within 0 250000000 t.blocking.0) e5 in
-    let e3 = both (c && p && d) j e4.0 in
+    let e3 = both (c && p && d) j e4 in
     let e2 = both (c && p) d e3.0 in
     let e1 = both c p e2.0 in
     record {
       work = lies 1 250000000 _ e1.0;
       period = lies 1 250000000 _ e1.1;
       deadline = lies 1 250000000 _ e2.1;
-      blocking = (lies 0 250000000 _ e4.1).1;
     }
 
 pub order : (t : Times) → times_in_order t ≡ true → (t.jitter.0 ≤ t.deadline.0) × (t.deadline.0 ≤ t.period.0)

@@ -1,9 +1,7 @@
 -- A name in 12 bytes, one byte at a time, and that it keeps the name: names that fill up to the same bytes are the same.
-use Rattle.std.proofs.Common.{ℕ, zero, suc, ◌+◌, ◌<◌, ◌≤◌, ◌≡◌, refl, sym, ap, ◌∙◌, true, ◌&&◌, List, [], ◌∷◌, ◌++◌, le_antisymm, add-one, arith, ne_eqb, leb-true, leb, length, get_or, take, drop, set, replicate, drop_of_length-le, length-take-le, take-suc, take_all, drop-cons}
+use Rattle.std.proofs.Common.{ℕ, zero, suc, ◌≤◌, ◌≡◌, refl, sym, ap, ◌∙◌, true, ◌&&◌, List, [], ◌∷◌, ◌++◌, ne_eqb, leb-true, leb, length, take, drop, replicate, length-take-le, take_all}
 use Rattle.std.proofs.Math.Bool.{and-eq-true_iff}
-use Rattle.std.proofs.Math.Seq.{append_snoc}
 use Rattle.std.proofs.lemmas.Bool.{false≢true}
-use Rattle.std.proofs.lemmas.List.{set_at}
 use Rattle.std.specs.List.{list_all}
 use Rattle.table.specs.Bytes.{is_name_byte}
 use Rattle.table.specs.Cut.{up_to}

@@ -1,6 +1,5 @@
 -- The part before the first c and the part after it, as a start and an end in the text.
-use Rattle.std.proofs.Common.{ℕ, suc, ◌+◌, ◌-◌, ◌≤◌, zero-le, suc-le-suc, ◌≡◌, refl, sym, ap, ◌∙◌, Bool, true, false, cond, List, [], ◌∷◌, add-one, arith, eqb, length, take, drop, length-drop, drop_of_length-le}
-use Rattle.std.proofs.Math.Nat.{sub-zero}
+use Rattle.std.proofs.Common.{ℕ, suc, ◌+◌, ◌-◌, ◌≤◌, ◌≡◌, refl, sym, ap, ◌∙◌, Bool, true, false, cond, List, [], ◌∷◌, add-one, arith, eqb, length, take, drop, length-drop, drop_of_length-le}
 use Rattle.std.proofs.Math.Seq.{take-length}
 use Rattle.table.specs.Cut.{up_to, after}
 

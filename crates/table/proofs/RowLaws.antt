@@ -1,6 +1,6 @@
 -- What a value that is judged by rows of conditions is.
-use Rattle.std.proofs.Common.{ℕ, ◌≡◌, refl, Bool, true, false, cond, List, [], ◌∷◌, arith}
-use Rattle.std.specs.Prelude.{Result, Ok, Err}
+use Rattle.std.proofs.Common.{ℕ, ◌≡◌, refl, Bool, true, false, cond, [], ◌∷◌, arith}
+use Rattle.std.specs.Prelude.{Ok, Err}
 use Rattle.table.specs.declared.refusals.Reason.{Reason}
 use Rattle.table.specs.Rows.{Conditions, unless_fault}
 

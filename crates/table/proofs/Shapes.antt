@@ -1,8 +1,8 @@
 -- Whether a line has a shape, told from its fields, which are read one after the other.
-use Rattle.std.proofs.Common.{ℕ, suc, ◌≡◌, refl, sym, ap, ◌∙◌, Bool, true, false, ◌&&◌, List, [], ◌∷◌, arith, ne_eqb, eq-eqb, eqb, length, get_or}
+use Rattle.std.proofs.Common.{ℕ, suc, ◌≡◌, refl, Bool, true, false, ◌&&◌, List, [], ◌∷◌, arith, ne_eqb, eq-eqb, length}
 use Rattle.std.specs.Str.{bytes_eq}
-use Rattle.table.specs.Cut.{fields, field_count}
-use Rattle.table.specs.Fields.{has_shape, is_letter}
+use Rattle.table.specs.Cut.{fields}
+use Rattle.table.specs.Fields.{has_shape}
 
 and-false : (a : Bool) → (a && false) ≡ false
 and-false true = refl

@@ -1,6 +1,5 @@
 -- What line a refusal of a text tells: one that a text of 16,384 bytes can have.
-use Rattle.std.proofs.Common.{◌≡◌, ℕ, ◌+◌, ◌≤◌, Bool, true, false, not, cond, List, [], ◌∷◌, length, arith, refl, Result, Ok, Err, length-take, ltb-false}
-use Rattle.std.proofs.lemmas.List.Sums.{prefix_len-le-length}
+use Rattle.std.proofs.Common.{◌≡◌, ℕ, ◌+◌, ◌≤◌, Bool, true, false, cond, List, [], ◌∷◌, length, arith, refl, Some, Result, Ok, Err, ltb-false}
 use Rattle.table.specs.Cut.{lines}
 use Rattle.table.proofs.Lines.{lines_long}
 use Rattle.table.specs.declared.refusals.Reason.{Reason}
@@ -8,11 +7,9 @@ use Rattle.table.specs.declared.refusals.Refusal.{Refusal}
 use Rattle.table.specs.Rows.{Conditions, unless_fault}
 use Rattle.table.proofs.RowLaws.{fine-row}
 use Rattle.table.specs.HeadLine.{head_rows, head_said}
-use Rattle.table.specs.TaskLine.{task_said}
-use Rattle.table.specs.AccessLine.{access_said}
 use Rattle.table.specs.declared.Table.{Table}
-use Rattle.table.specs.Tables.{tasks_of, new_table, with_task, with_access}
-use Rattle.table.specs.Reading.{told, then_read, text_rows, is_task_line, line_rows, with_line, end_rows, is_blocked, ended, read_from, read_lines, read_text}
+use Rattle.table.specs.Tables.{new_table}
+use Rattle.table.specs.Reading.{told, then_read, text_rows, line_rows, with_line, end_rows, ended, is_blocked, first_blocked, unless_blocked, read_from, read_below, read_lines, read_text}
 
 -- a refusal, if it is one, tells a line up to `most`
 abbrev pub ToldBy : {X : Type 0} → ℕ → Result X Refusal → Type 0
@@ -40,33 +37,29 @@ rows-told line most (r ∷ rows) x next h p = go r.0 p (rows-told line most rows
     go false p f = f p
 
 -- the line of a task with a B is one of those that were read
-ended-told : (table : Table) (most : ℕ) → table.count + 2 ≤ most → ToldBy most (ended table)
-unfolding ended
-ended-told table most h =
-    then-told most (told 1 (unless_fault (end_rows table) (tt {0}))) _ (told-by 1 most _ (omega arith))
-    (λ _. told-by _ most _ (omega (arith, prefix_len-le-length (λ t. not (is_blocked t)) (tasks_of table), length-take table.count table.tasks)))
-
--- a line adds a task at most
-counts-on : (table : Table) (l : List ℕ) → (with_line table l).count ≤ table.count + 1
-counts-on table l = go (is_task_line l)
+blocked-told : (ls : List (List ℕ)) (line most : ℕ) (table : Table) → line + length ls ≤ most → ToldBy most (unless_blocked (first_blocked line ls) table)
+unfolding first_blocked unless_blocked
+blocked-told [] line most table h = tt
+blocked-told (s ∷ ls) line most table h = go (is_blocked s) (blocked-told ls (line + 1) most table (omega arith))
   where
-    go : (t : Bool) → (cond t (with_task table (task_said table.form table.sets l)) (with_access table (access_said table.form table.sets (tasks_of table) l))).count ≤ table.count + 1
-    go true = omega arith
-    go false = omega arith
+    go : (b : Bool) → ToldBy most (unless_blocked (first_blocked (line + 1) ls) table) → ToldBy most (unless_blocked (cond b (Some line) (first_blocked (line + 1) ls)) table)
+    go true below = omega arith
+    go false below = below
 
-from_told : (ls : List (List ℕ)) (line : ℕ) (table : Table) (most : ℕ) → table.count + 2 ≤ line → line + length ls ≤ most → ToldBy most (read_from line table ls)
-unfolding read_from
-from_told [] line table most l h = then-told most (ended table) (λ _. Ok table) (ended-told table most (omega arith)) (λ _. tt)
+from_told : (ls : List (List ℕ)) (line : ℕ) (table : Table) (most : ℕ) → 1 ≤ line → line + length ls ≤ most → ToldBy most (read_from line table ls)
+unfolding read_from ended
+from_told [] line table most l h = told-by 1 most (unless_fault (end_rows table) table) (omega arith)
 from_told (s ∷ ls) line table most l h =
     rows-told line most (line_rows table s) (with_line table s) (λ t. read_from (line + 1) t ls) (omega arith)
-    (λ _. from_told ls (line + 1) (with_line table s) most (omega (arith, counts-on table s)) (omega arith))
+    (λ _. from_told ls (line + 1) (with_line table s) most (omega arith) (omega arith))
 
 lines-told : (ls : List (List ℕ)) (most : ℕ) → 1 ≤ most → 1 + length ls ≤ most → ToldBy most (read_lines ls)
 unfolding read_lines
 lines-told [] most l h = omega arith
 lines-told (s ∷ ls) most l h =
-    rows-told 1 most (head_rows s) (head_said s) (λ head. read_from 2 (new_table head) ls) (omega arith)
-    (λ _. from_told ls 2 (new_table (head_said s)) most (omega arith) (omega arith))
+    rows-told 1 most (head_rows s) (head_said s) (λ head. read_below (new_table head) ls) (omega arith)
+    (λ _. then-told most (read_from 2 (new_table (head_said s)) ls) (unless_blocked (first_blocked 2 ls)) (from_told ls 2 (new_table (head_said s)) most (omega arith) (omega arith))
+    (λ table. blocked-told ls 2 most table (omega arith)))
 
 pub read-told : (text : List ℕ) → ToldBy 16385 (read_text text)
 unfolding read_text

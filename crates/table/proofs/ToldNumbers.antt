@@ -1,8 +1,8 @@
 -- The number of a text's refusal is at most 18: the reasons beyond are those of calls.
-use Rattle.std.proofs.Common.{ℕ, ◌+◌, ◌≤◌, Bool, true, false, ◌&&◌, cond, List, [], ◌∷◌, length, arith, Result, Ok, Err}
-use Rattle.std.specs.Prelude.{nat_lt, ◌==◌}
+use Rattle.std.proofs.Common.{ℕ, ◌+◌, ◌≤◌, Bool, true, false, cond, List, [], ◌∷◌, arith, Option, Some, None, Result, Ok, Err}
+use Rattle.std.specs.Prelude.{◌==◌}
 use Rattle.table.specs.Cut.{lines}
-use Rattle.table.specs.declared.refusals.Reason.TheVariants.{Shape, NoTask, Blocking}
+use Rattle.table.specs.declared.refusals.Reason.TheVariants.{Shape, NoTask}
 use Rattle.table.specs.declared.refusals.Refusal.{Refusal}
 use Rattle.table.specs.Numbers.{reason_number}
 use Rattle.table.specs.Rows.{Conditions, unless_fault}
@@ -13,7 +13,7 @@ use Rattle.table.specs.TaskLine.{task_rows}
 use Rattle.table.specs.AccessLine.{access_rows}
 use Rattle.table.specs.declared.Table.{Table}
 use Rattle.table.specs.Tables.{tasks_of, new_table}
-use Rattle.table.specs.Reading.{told, then_read, text_rows, is_task_line, is_access_line, task_line_rows, access_line_rows, line_rows, with_line, first_blocked, ended, read_from, read_lines, read_text}
+use Rattle.table.specs.Reading.{told, then_read, text_rows, is_task_line, is_access_line, task_line_rows, access_line_rows, line_rows, with_line, ended, first_blocked, unless_blocked, read_from, read_below, read_lines, read_text}
 
 -- a refusal, if it is one, has such a number
 abbrev pub NumberedLow : {X : Type 0} → Result X Refusal → Type 0
@@ -53,27 +53,28 @@ line-low table l = go (is_task_line l) (is_access_line l)
     go false true = (omega arith, access-low table.form table.sets (tasks_of table) l)
     go false false = (omega arith, tt)
 
-ended-low : (table : Table) → NumberedLow (then_read (ended table) (λ _. Ok table))
-unfolding ended unless_fault
-ended-low table = go (table.count == 0) (nat_lt 0 table.access_count && nat_lt (first_blocked (tasks_of table)) (length (tasks_of table)))
-  where
-    go : (s t : Bool)
-        → NumberedLow (then_read (then_read (told 1 (cond s (Err NoTask) (Ok (tt {0})))) (λ _. told (first_blocked (tasks_of table) + 2) (cond t (Err Blocking) (Ok (tt {0}))))) (λ _. Ok table))
-    go true t = omega arith
-    go false true = omega arith
-    go false false = tt
-
 from-low : (ls : List (List ℕ)) (line : ℕ) (table : Table) → NumberedLow (read_from line table ls)
-unfolding read_from
-from-low [] line table = ended-low table
+unfolding read_from ended unless_fault
+from-low [] line table = go (table.count == 0)
+  where
+    go : (t : Bool) → NumberedLow (told 1 (cond t (Err NoTask) (Ok table)))
+    go true = omega arith
+    go false = tt
 from-low (l ∷ ls) line table =
     rows-low line (line_rows table l) (with_line table l) (λ t. read_from (line + 1) t ls) (line-low table l) (from-low ls (line + 1) (with_line table l))
+
+below-low : (first : Option ℕ) (r : Result Table Refusal) → NumberedLow r → NumberedLow (then_read r (unless_blocked first))
+unfolding unless_blocked
+below-low None (Ok table) low = tt
+below-low (Some line) (Ok table) low = omega arith
+below-low first (Err refusal) low = low
 
 lines-low : (ls : List (List ℕ)) → NumberedLow (read_lines ls)
 unfolding read_lines
 lines-low [] = omega arith
 lines-low (l ∷ ls) =
-    rows-low 1 (head_rows l) (head_said l) (λ head. read_from 2 (new_table head) ls) (omega arith, (omega arith, (omega arith, tt))) (from-low ls 2 (new_table (head_said l)))
+    rows-low 1 (head_rows l) (head_said l) (λ head. read_below (new_table head) ls) (omega arith, (omega arith, (omega arith, tt)))
+    (below-low (first_blocked 2 ls) _ (from-low ls 2 (new_table (head_said l))))
 
 pub text-low : (text : List ℕ) → NumberedLow (read_text text)
 unfolding read_text

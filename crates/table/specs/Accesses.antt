@@ -2,7 +2,6 @@
 use Rattle.std.specs.Prelude.{ℕ, Bool, ◌&&◌, List, [], ◌∷◌, filter, if◌then◌else◌, nat_le, nat_lt}
 use Rattle.cache.specs.Counts.{Counts, nothing}
 use Rattle.cache.specs.Levels.{counts}
-use Rattle.table.specs.declared.tasks.Task.{Task}
 use Rattle.table.specs.Tasks.{no_blocks}
 use Rattle.table.specs.declared.accesses.Access.{Access}
 
@@ -23,14 +22,10 @@ or_else a (b ∷ rest) = b ∷ rest
 abbrev pub added_by : ℕ → Access → ℕ → Counts
 added_by ways a j = if nat_lt j a.ceiling then counts ways a.ucb else nothing
 
--- B of a task as an access: it takes as long, and nothing of it can be evicted
-abbrev pub plain_access : Task → Access
-plain_access t = record { task = 0; ceiling = 0; lasts = t.blocking; ucb = no_blocks }
-
 -- what stands past the end of a table's accesses: no statement rests on it
 abbrev pub blank_access : Access
 blank_access = record { task = 0; ceiling = 0; lasts = record { 0 = 0 }; ucb = record { levels = [] } }
 
--- what stands in a place of a table that has no access
+-- what stands in a place of a table that has no access: it takes no time, and nothing of it can be evicted
 abbrev pub empty_access : Access
 empty_access = record { task = 0; ceiling = 0; lasts = record { 0 = 0 }; ucb = no_blocks }

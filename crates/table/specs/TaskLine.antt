@@ -1,5 +1,5 @@
 -- What a task line says, field by field, and its refusals, each with its condition, in the order in which they are tried.
-use Rattle.std.specs.Prelude.{ℕ, List, [], ◌∷◌, Bool, ◌≡◌, true, not, ◌&&◌, Option, Some, None, is_some, unwrap_or, if◌then◌else◌, nat_le}
+use Rattle.std.specs.Prelude.{ℕ, List, [], ◌∷◌, Bool, ◌≡◌, true, not, ◌&&◌, Option, Some, None, is_some, unwrap_or, if◌then◌else◌, nat_le, nat_lt}
 use Rattle.table.specs.Cut.{field}
 use Rattle.table.specs.Fields.{is_number, number, has_shape, is_name, is_within}
 use Rattle.cache.specs.declared.useful.Form.{Form}
@@ -11,6 +11,7 @@ use Rattle.table.specs.declared.tasks.Task.{Task}
 use Rattle.table.specs.declared.tasks.line.TaskFields.{TaskFields}
 use Rattle.table.specs.declared.tasks.line.Times.{Times}
 use Rattle.table.specs.Names.{knows}
+use Rattle.cache.specs.declared.units.Ticks.{Ticks}
 use Rattle.table.specs.Tasks.{pack_name, no_sets, no_blocks}
 
 -- these are the fields of a task line, which has nine, and `T` the first
@@ -25,36 +26,33 @@ pub record AreTaskFields (line : List ℕ) (f : TaskFields) : Type 0 where
   pub ucb : f.ucb.now ≡ field 7 line
   pub ecb : f.ecb.now ≡ field 8 line
 
--- the times that fields say: C, T, D, J and B
-abbrev pub times_said : (work period deadline jitter blocking : List ℕ) → Times
-times_said work period deadline jitter blocking = record {
+-- the times that fields say: C, T, D and J
+abbrev pub times_said : (work period deadline jitter : List ℕ) → Times
+times_said work period deadline jitter = record {
   work = record { 0 = number work };
   period = record { 0 = number period };
   deadline = record { 0 = number deadline };
   jitter = record { 0 = number jitter };
-  blocking = record { 0 = number blocking };
 }
 
-abbrev pub are_numbers : (work period deadline jitter blocking : List ℕ) → Bool
-are_numbers work period deadline jitter blocking =
-    is_number work && is_number period && is_number deadline && is_number jitter && is_number blocking
+abbrev pub are_numbers : (work period deadline jitter : List ℕ) → Bool
+are_numbers work period deadline jitter = is_number work && is_number period && is_number deadline && is_number jitter
 
-unfoldable pub read_times : (work period deadline jitter blocking : List ℕ) → Option Times
-read_times work period deadline jitter blocking =
-    if are_numbers work period deadline jitter blocking then Some (times_said work period deadline jitter blocking) else None
+unfoldable pub read_times : (work period deadline jitter : List ℕ) → Option Times
+read_times work period deadline jitter =
+    if are_numbers work period deadline jitter then Some (times_said work period deadline jitter) else None
 
 -- the times of a task
 abbrev pub times_of : Task → Times
-times_of t = record { work = t.work; period = t.period; deadline = t.deadline; jitter = t.jitter; blocking = t.blocking }
+times_of t = record { work = t.work; period = t.period; deadline = t.deadline; jitter = t.jitter }
 
--- the ranges of a task's times: J and B may be 0
+-- the ranges of a task's times: J may be 0
 unfoldable pub times_in_range : Times → Bool
 times_in_range t =
     is_within 1 250000000 t.work.0
     && is_within 1 250000000 t.period.0
     && is_within 1 250000000 t.deadline.0
     && is_within 0 250000000 t.jitter.0
-    && is_within 0 250000000 t.blocking.0
 
 -- J ≤ D ≤ T
 unfoldable pub times_in_order : Times → Bool
@@ -63,25 +61,31 @@ times_in_order t = nat_le t.jitter.0 t.deadline.0 && nat_le t.deadline.0 t.perio
 -- what a task line says: after `T` the name, then the times, the useful blocks and the evicting sets (none where a field says none)
 unfoldable pub task_said : Form → ℕ → List ℕ → Task
 task_said form sets line =
-    let times = times_said (field 2 line) (field 3 line) (field 4 line) (field 5 line) (field 6 line) in record {
+    let times = times_said (field 2 line) (field 3 line) (field 4 line) (field 5 line) in record {
       name = pack_name (field 1 line);
       work = times.work;
       period = times.period;
       deadline = times.deadline;
       jitter = times.jitter;
-      blocking = times.blocking;
       ucb = unwrap_or (read_useful form sets (field 7 line)) no_blocks;
       ecb = unwrap_or (read_set sets (field 8 line)) no_sets;
     }
 
+-- B of a task line, which says nothing of the task
+abbrev pub blocking_said : List ℕ → Ticks
+blocking_said line = record { 0 = number (field 6 line) }
+
+abbrev pub has_blocking : List ℕ → Bool
+has_blocking line = nat_lt 0 (blocking_said line).0
+
 -- a task line below these tasks: each condition is looked for in every field before the next one is
 unfoldable pub task_rows : Form → ℕ → List Task → List ℕ → Conditions
 task_rows form sets above line =
-    let times = times_said (field 2 line) (field 3 line) (field 4 line) (field 5 line) (field 6 line) in
+    let times = times_said (field 2 line) (field 3 line) (field 4 line) (field 5 line) in
     (not (has_shape 84 9 line), Shape)
     ∷ (not (is_name (field 1 line)), Name)
-    ∷ (not (are_numbers (field 2 line) (field 3 line) (field 4 line) (field 5 line) (field 6 line)), Number)
-    ∷ (not (times_in_range times), Range)
+    ∷ (not (are_numbers (field 2 line) (field 3 line) (field 4 line) (field 5 line) && is_number (field 6 line)), Number)
+    ∷ (not (times_in_range times && is_within 0 250000000 (number (field 6 line))), Range)
     ∷ (not (is_some (read_useful form sets (field 7 line)) && is_some (read_set sets (field 8 line))), Marks)
     ∷ (not (within_ways form (field 7 line)), TooManyBlocks)
     ∷ (not (times_in_order times), Order)

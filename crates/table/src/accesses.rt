@@ -3,9 +3,8 @@
 mod line;
 
 ghost use Rattle.std.specs.Prelude.{◌≡◌};
-ghost use Rattle.table.specs.Accesses.{may_block, plain_access};
+ghost use Rattle.table.specs.Accesses.{may_block};
 
-use crate::tasks::Task;
 use cache::units::Ticks;
 use cache::useful::Useful;
 
@@ -19,7 +18,7 @@ pub struct Access {
 }
 
 impl Access {
-    // What stands in a place without an access.
+    // What stands in a place without an access. It takes no time, and nothing of it can be evicted.
     pub const NONE: Access = Access {
         task: 0,
         ceiling: 0,
@@ -32,15 +31,5 @@ impl Access {
         ensures { result ≡ may_block i self.now }
     {
         (i < self.task) & (self.ceiling <= i)
-    }
-}
-
-// B of a task as an access.
-pub fn plain_access(task: &Task) -> Access
-    ensures { result ≡ plain_access task.now }
-{
-    Access {
-        lasts: task.blocking,
-        ..Access::NONE
     }
 }

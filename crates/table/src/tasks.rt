@@ -10,7 +10,7 @@ use cache::useful::Useful;
 pub use head::Head;
 pub use name::{Name, is_known, position_of};
 
-// A task: its name, C, T, D, J, B, UCB and ECB.
+// A task: its name, C, T, D, J, UCB and ECB.
 #[derive(Clone, Copy)]
 pub struct Task {
     pub name: Name,
@@ -18,7 +18,6 @@ pub struct Task {
     pub period: Ticks,
     pub deadline: Ticks,
     pub jitter: Ticks,
-    pub blocking: Ticks,
     pub ucb: Useful,
     pub ecb: CacheSet,
 }
@@ -31,7 +30,6 @@ impl Task {
         period: Ticks(0),
         deadline: Ticks(0),
         jitter: Ticks(0),
-        blocking: Ticks(0),
         ucb: Useful::NONE,
         ecb: CacheSet::EMPTY,
     };

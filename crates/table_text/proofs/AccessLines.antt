@@ -20,6 +20,7 @@ use Rattle.table.proofs.Names.{name-kept}
 use Rattle.table.proofs.LineLaws.{both, lies}
 use Rattle.table.specs.declared.accesses.Access.{Access}
 use Rattle.table.specs.AccessLine.{position_named, access_rows, access_said}
+use Rattle.table.specs.Reading.{is_blocked}
 use Rattle.writing.specs.Marks.{useful_text, useful_fits}
 use Rattle.writing.proofs.UsefulFields.{useful-read, useful-within}
 use Rattle.writing.proofs.UsefulReads.{useful-says}
@@ -82,6 +83,9 @@ module _ (form : Form) (w : ways_of form ≤ 8) (sets : ℕ) (few : sets ≤ 256
       pub access-says : access_said form sets ts l ≡ a
       unfolding access_said
       access-says = rw (f, at-task, at-ceiling, number_read a.lasts.0 small, useful-read sets few by-four form a.ucb w h.ucb)
+
+      pub access-free : is_blocked l ≡ false
+      access-free = rw f refl
 
       pub access-fine : unless_fault (access_rows form sets ts l) (tt {0}) ≡ Ok (tt {0})
       unfolding access_rows unless_fault has_shape

@@ -38,9 +38,8 @@ empty-vacant = refl
 
 pub vacant-empty : (t : Task) → is_vacant t ≡ true → t ≡ empty_task
 unfolding is_vacant
-vacant-empty t e8 =
-    let e7 = both _ _ e8 in
-    let e6 = both _ _ e7.0 in
+vacant-empty t e7 =
+    let e6 = both _ _ e7 in
     let e5 = both _ _ e6.0 in
     let e4 = both _ _ e5.0 in
     let e3 = both _ _ e4.0 in
@@ -51,16 +50,14 @@ vacant-empty t e8 =
     let period = eqb-true t.period.0 0 e2.1 in
     let deadline = eqb-true t.deadline.0 0 e3.1 in
     let jitter = eqb-true t.jitter.0 0 e4.1 in
-    let blocking = eqb-true t.blocking.0 0 e5.1 in
-    let ucb = none-useful t.ucb e6.1 in
-    let ecb = none-fit t.ecb e7.1 in
+    let ucb = none-useful t.ucb e5.1 in
+    let ecb = none-fit t.ecb e6.1 in
     λ i. record {
       name = record { bytes = name i };
       work = record { 0 = work i };
       period = record { 0 = period i };
       deadline = record { 0 = deadline i };
       jitter = record { 0 = jitter i };
-      blocking = record { 0 = blocking i };
       ucb = ucb i;
       ecb = ecb i;
     }

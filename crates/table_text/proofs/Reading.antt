@@ -1,14 +1,13 @@
 -- What a text that is accepted leaves in the table: its lists pass the tests, and its lines are those that are written of them.
-use Rattle.std.proofs.Common.{◌≡◌, ℕ, ◌+◌, ◌≤◌, ◌<◌, Bool, true, false, cond, List, [], ◌∷◌, ◌++◌, length, map, refl, sym, ap, ◌∙◌, arith, length-append, append-nil, append_assoc, Result, Ok, Err, leb-false, ltb-false}
+use Rattle.std.proofs.Common.{◌≡◌, ℕ, ◌+◌, ◌≤◌, ◌<◌, Bool, true, false, cond, ◌&&◌, List, [], ◌∷◌, ◌++◌, length, map, refl, sym, ap, ◌∙◌, arith, length-append, append-nil, append_assoc, Option, Some, None, Result, Ok, Err, eqb, ltb, leb-false, ltb-false, lt-ltb}
 use Rattle.std.proofs.Math.Bool.{and-eq-true_iff}
-use Rattle.std.proofs.lemmas.Bool.{false≢true, not-false}
+use Rattle.std.proofs.lemmas.Bool.{false≢true, eqb-false, not-false}
 use Rattle.std.proofs.lemmas.List.{map-append}
 use Rattle.std.proofs.lemmas.List.Folds.{list_all-append}
-use Rattle.std.specs.Prelude.{is_ok}
 use Rattle.std.specs.List.{list_all}
 use Rattle.table.specs.Cut.{fields, lines}
 use Rattle.table.specs.declared.refusals.Reason.{Reason}
-use Rattle.table.specs.declared.refusals.Reason.TheVariants.{Shape}
+use Rattle.table.specs.declared.refusals.Reason.TheVariants.{Shape, NoTask}
 use Rattle.table.specs.declared.refusals.Refusal.{Refusal}
 use Rattle.table.specs.Rows.{Conditions, unless_fault}
 use Rattle.table.proofs.RowLaws.{fine-any, fine-row}
@@ -16,12 +15,12 @@ use Rattle.cache.specs.declared.useful.Form.{Form}
 use Rattle.table.specs.declared.tasks.Task.{Task}
 use Rattle.table.specs.declared.tasks.head.Head.{Head}
 use Rattle.table.specs.HeadLine.{head_in_range, head_rows, head_said}
-use Rattle.table.specs.TaskLine.{task_rows, task_said}
+use Rattle.table.specs.TaskLine.{task_rows, task_said, has_blocking}
 use Rattle.table.specs.declared.accesses.Access.{Access}
 use Rattle.table.specs.AccessLine.{access_rows, access_said}
 use Rattle.table.specs.declared.Table.{Table}
 use Rattle.table.specs.Tables.{tasks_of, new_table, with_task, with_access}
-use Rattle.table.specs.Reading.{told, then_read, is_task_line, is_access_line, task_line_rows, access_line_rows, line_rows, with_line, ended, read_from, read_lines, read_text, is_ended, text_rows}
+use Rattle.table.specs.Reading.{told, then_read, is_task_line, is_access_line, task_line_rows, access_line_rows, line_rows, with_line, ended, is_blocked, first_blocked, unless_blocked, read_from, read_below, read_lines, read_text, is_ended, text_rows}
 use Rattle.table_text.specs.TableText.{head_fields, task_fields, access_fields, lines_of}
 use Rattle.table_text.specs.Tests.{is_next, are_next, is_entered}
 use Rattle.table_text.proofs.TaskLines.{few-sets, sets-by-four, few-ways, head-passes, head-is, task-passes, task-is}
@@ -40,12 +39,33 @@ module _ {X : Type 0} (line : ℕ) (rows : Conditions) (x : X) (next : X → Res
       go (Err reason) q e = absurd (cc)
 
 -- the end too
-pub end-accepted : {result : Table} (table : Table) → then_read (ended table) (λ _. Ok table) ≡ Ok result → (is_ok (ended table) ≡ true) × (table ≡ result)
-end-accepted {result} table e = go (ended table) e
+pub end-accepted : {result : Table} (table : Table) → ended table ≡ Ok result → (ltb 0 table.count ≡ true) × (table ≡ result)
+unfolding ended unless_fault
+end-accepted {result} table e = go (eqb table.count 0) refl e
   where
-    go : (r : Result (Unit {0}) Refusal) → then_read r (λ _. Ok table) ≡ Ok result → (is_ok r ≡ true) × (table ≡ result)
-    go (Ok u) e = (refl, cc)
-    go (Err refusal) e = absurd (cc)
+    go : (t : Bool) → eqb table.count 0 ≡ t → told 1 (cond t (Err NoTask) (Ok table)) ≡ Ok result → (ltb 0 table.count ≡ true) × (table ≡ result)
+    go true q e = absurd (cc)
+    go false q e = let some = eqb-false table.count 0 q in (lt-ltb 0 table.count (omega arith), cc)
+
+-- and no line has a B above 0
+abbrev pub Free : List (List ℕ) → Type 0
+Free [] = Unit {0}
+Free (l ∷ ls) = (is_blocked l ≡ false) × Free ls
+
+free-lines : (line : ℕ) (ls : List (List ℕ)) → None ≡ first_blocked line ls → Free ls
+unfolding first_blocked
+free-lines line [] e = tt
+free-lines line (l ∷ ls) e = go (is_blocked l) refl e (free-lines (line + 1) ls)
+  where
+    go : (t : Bool) → is_blocked l ≡ t → None ≡ cond t (Some line) (first_blocked (line + 1) ls) → (None ≡ first_blocked (line + 1) ls → Free ls) → Free (l ∷ ls)
+    go true q e more = absurd (cc)
+    go false q e more = (q, more e)
+
+below-accepted : {result : Table} (r : Result Table Refusal) (first : Option ℕ) → then_read r (unless_blocked first) ≡ Ok result → (r ≡ Ok result) × (None ≡ first)
+unfolding unless_blocked
+below-accepted (Ok table) None e = (e, refl)
+below-accepted (Ok table) (Some line) e = absurd (cc)
+below-accepted (Err refusal) first e = absurd (cc)
 
 -- ---- one task more
 
@@ -109,14 +129,14 @@ module _ (h : Head) (ts : List Task) (accesses : List Access) (l : List ℕ) (p 
       entered = refl;
     }
 
-    with-task : With h ts accesses l (with_task (table_of h ts accesses) t)
-    with-task = record {
+    with-task : has_blocking l ≡ false → With h ts accesses l (with_task (table_of h ts accesses) t)
+    with-task free = record {
       tasks = ts ++ (t ∷ []);
       others = [];
       is = rw early (task-more h ts [] t few);
       passed = more;
       lines =
-          rw (early, append-nil (map (task_fields h.form h.sets) (ts ++ (t ∷ []))), append-nil (map (task_fields h.form h.sets) ts), task-is h.form (few-ways h p.head) h.sets (few-sets h p.head) (sets-by-four h p.head) ts l fine)
+          rw (early, append-nil (map (task_fields h.form h.sets) (ts ++ (t ∷ []))), append-nil (map (task_fields h.form h.sets) ts), task-is h.form (few-ways h p.head) h.sets (few-sets h p.head) (sets-by-four h p.head) ts l fine free)
           (ap (λ (m : List (List (List ℕ))). head_fields h.sets h.brt.0 h.form ∷ m) (map-append (task_fields h.form h.sets) ts (t ∷ [])));
     }
 
@@ -152,15 +172,16 @@ module _ (h : Head) (ts : List Task) (accesses : List Access) (l : List ℕ) (p 
     }
 
   -- so any line
-  with-any : unless_fault (line_rows (table_of h ts accesses) l) (tt {0}) ≡ Ok (tt {0}) → With h ts accesses l (with_line (table_of h ts accesses) l)
-  with-any e = go (is_task_line l) (is_access_line l) e
+  with-any : unless_fault (line_rows (table_of h ts accesses) l) (tt {0}) ≡ Ok (tt {0}) → is_blocked l ≡ false → With h ts accesses l (with_line (table_of h ts accesses) l)
+  with-any e free = go (is_task_line l) (is_access_line l) e free
     where
       go : (t a : Bool)
           → unless_fault (cond t (task_line_rows (table_of h ts accesses) l) (cond a (access_line_rows (table_of h ts accesses) l) ((true, Shape) ∷ []))) (tt {0}) ≡ Ok (tt {0})
+          → (t && has_blocking l) ≡ false
           → With h ts accesses l (cond t (with_task (table_of h ts accesses) (task_said h.form h.sets l)) (with_access (table_of h ts accesses) (access_said h.form h.sets (tasks_of (table_of h ts accesses)) l)))
-      go true a e = with-task e
-      go false true e = rw (its-tasks h ts accesses) (with-access e)
-      go false false e = absurd (false≢true (sym (fine-row _ _ _ _ _ e).0))
+      go true a e free = with-task e free
+      go false true e free = rw (its-tasks h ts accesses) (with-access e)
+      go false false e free = absurd (false≢true (sym (fine-row _ _ _ _ _ e).0))
 
 -- ---- the reading, on from a table through these lines
 
@@ -169,19 +190,19 @@ pub record ReadOn (h : Head) (ts : List Task) (accesses : List Access) (ls : Lis
   pub others : List Access
   pub is : result ≡ table_of h tasks others
   pub passed : Passed h tasks others
-  pub ends : is_ok (ended result) ≡ true
+  pub ends : ltb 0 result.count ≡ true
   pub lines : lines_so_far h tasks others ≡ lines_so_far h ts accesses ++ map fields ls
 
 pub read-on : (line : ℕ) (h : Head) (ts : List Task) (accesses : List Access) (ls : List (List ℕ)) (result : Table) → Passed h ts accesses
-    → read_from line (table_of h ts accesses) ls ≡ Ok result → ReadOn h ts accesses ls result
+    → read_from line (table_of h ts accesses) ls ≡ Ok result → Free ls → ReadOn h ts accesses ls result
 unfolding read_from
-read-on line h ts accesses [] result p e =
+read-on line h ts accesses [] result p e free =
     let q = end-accepted (table_of h ts accesses) e in
-    record { tasks = ts; others = accesses; is = sym q.1; passed = p; ends = rw q.1 at q.0; lines = sym (append-nil _) }
-read-on line h ts accesses (l ∷ ls) result p e =
+    record { tasks = ts; others = accesses; is = sym q.1; passed = p; ends = ap (λ (t : Table). ltb 0 t.count) (sym q.1) ∙ q.0; lines = sym (append-nil _) }
+read-on line h ts accesses (l ∷ ls) result p e free =
     let q = step-accepted line (line_rows (table_of h ts accesses) l) (with_line (table_of h ts accesses) l) (λ table. read_from (line + 1) table ls) e in
-    let w = with-any h ts accesses l p q.0 in
-    let r = read-on (line + 1) h w.tasks w.others ls result w.passed (rw w.is at q.1) in
+    let w = with-any h ts accesses l p q.0 free.0 in
+    let r = read-on (line + 1) h w.tasks w.others ls result w.passed (rw w.is at q.1) free.1 in
     record {
       tasks = r.tasks;
       others = r.others;
@@ -200,7 +221,7 @@ pub record Read (ls : List (List ℕ)) (table : Table) : Type 0 where
   pub others : List Access
   pub is : table ≡ table_of head tasks others
   pub passed : Passed head tasks others
-  pub ends : is_ok (ended table) ≡ true
+  pub ends : ltb 0 table.count ≡ true
   pub lines : lines_so_far head tasks others ≡ map fields ls
 
 pub lines-read : (ls : List (List ℕ)) (table : Table) → read_lines ls ≡ Ok table → Read ls table
@@ -208,8 +229,9 @@ unfolding read_lines are_next
 lines-read [] table e = absurd (cc)
 lines-read (l ∷ ls) table e =
     let h = head_said l in
-    let q = step-accepted 1 (head_rows l) (head_said l) (λ head. read_from 2 (new_table head) ls) e in
-    let r = read-on 2 h [] [] ls table (record { head = head-passes l q.0; few = omega arith; tasks = refl; few-accesses = omega arith; entered = refl }) q.1 in
+    let q = step-accepted 1 (head_rows l) (head_said l) (λ head. read_below (new_table head) ls) e in
+    let b = below-accepted (read_from 2 (new_table h) ls) (first_blocked 2 ls) q.1 in
+    let r = read-on 2 h [] [] ls table (record { head = head-passes l q.0; few = omega arith; tasks = refl; few-accesses = omega arith; entered = refl }) b.0 (free-lines 2 ls b.1) in
     record {
       head = h;
       tasks = r.tasks;

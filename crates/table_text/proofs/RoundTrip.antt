@@ -1,15 +1,16 @@
 -- Reading and writing go back and forth: a text that is accepted is its table's text, and the text of a table that passes the tests is accepted as that table.
 -- So the tests tell just which tables a text gives.
-use Rattle.std.proofs.Common.{◌≡◌, ℕ, zero, suc, ◌+◌, ◌-◌, ◌%◌, ◌≤◌, ◌<◌, Bool, true, false, ◌||◌, List, [], ◌∷◌, ◌++◌, length, take, drop, get_or, map, flat_map, refl, sym, ap, ◌∙◌, arith, length-append, append-nil, append_assoc, Result, Ok, Err, leb-true, le-leb, le-ltb, leb}
+use Rattle.std.proofs.Common.{◌≡◌, ℕ, zero, suc, ◌+◌, ◌-◌, ◌%◌, ◌≤◌, ◌<◌, Bool, true, false, ◌||◌, List, [], ◌∷◌, ◌++◌, length, take, drop, get_or, map, flat_map, refl, sym, ap, ◌∙◌, arith, length-append, append-nil, append_assoc, cond, Option, Some, None, Result, Ok, Err, leb-true, le-leb, le-ltb, leb, eqb, ltb, eqb-true, ltb-true}
 use Rattle.std.proofs.Math.Seq.{length-take-le, get_or-take}
 use Rattle.std.proofs.lemmas.Bool.{false≢true, lt-leb}
 use Rattle.std.proofs.lemmas.List.{map-append}
 use Rattle.std.proofs.lemmas.List.Folds.{flat_map-map}
 use Rattle.std.proofs.lemmas.List.Splits.{join_with_byte-slice_split}
-use Rattle.std.specs.Prelude.{is_ok, IsTrue, ◌↔◌}
+use Rattle.std.specs.Prelude.{IsTrue, ◌↔◌}
 use Rattle.std.specs.List.{list_all, list_any, join_with_byte}
 use Rattle.table.specs.Cut.{fields, lines}
 use Rattle.table.specs.declared.refusals.Refusal.{Refusal}
+use Rattle.table.specs.declared.refusals.Reason.TheVariants.{NoTask}
 use Rattle.table.specs.Rows.{Conditions, unless_fault}
 use Rattle.table.proofs.RowLaws.{fine-any}
 use Rattle.cache.specs.declared.useful.Form.{Form}
@@ -25,7 +26,7 @@ use Rattle.table.specs.Accesses.{empty_access}
 use Rattle.table.specs.declared.Table.{Table}
 use Rattle.table.specs.Tables.{tasks_of, accesses_of, new_table}
 use Rattle.table.specs.Accepted.{AcceptedTable}
-use Rattle.table.specs.Reading.{told, then_read, line_rows, with_line, ended, read_from, read_lines, read_text}
+use Rattle.table.specs.Reading.{told, then_read, line_rows, with_line, ended, is_blocked, first_blocked, unless_blocked, read_from, read_below, read_lines, read_text}
 use Rattle.table.proofs.AcceptedLaws.{accepted-lines}
 use Rattle.table_text.specs.TableText.{head_fields, task_fields, access_fields, lines_of, line_text, table_text}
 use Rattle.table_text.specs.Readable.{Whole, Readable}
@@ -34,8 +35,8 @@ use Rattle.table_text.proofs.Lengths.{entered-known}
 use Rattle.table_text.specs.Tests.{head_of, is_next, are_next, is_entered, is_vacant, is_unused, has_lines, is_readable}
 use Rattle.table_text.proofs.Lines.{is-line, AreLines, are-lines-append, lines-written, ended-lines, is-ended}
 use Rattle.table_text.proofs.Places.{empty-vacant, vacant-empty, empty-unused, unused-empty}
-use Rattle.table_text.proofs.TaskLines.{filled-name, few-sets, sets-by-four, few-ways, head-plain, head-says, head-fine, NextHolds, next-holds, task-plain, task-says, task-fine}
-use Rattle.table_text.proofs.AccessLines.{EnteredHolds, entered-holds, Named, access-plain, access-says, access-fine}
+use Rattle.table_text.proofs.TaskLines.{filled-name, few-sets, sets-by-four, few-ways, head-plain, head-says, head-fine, NextHolds, next-holds, task-plain, task-says, task-free, task-fine}
+use Rattle.table_text.proofs.AccessLines.{EnteredHolds, entered-holds, Named, access-plain, access-says, access-free, access-fine}
 use Rattle.table_text.proofs.Filled.{table_of, its-tasks, its-accesses, task-more, access-more, empty-all, filled-up, past}
 use Rattle.table_text.proofs.Reading.{Passed, lines_so_far, its-lines, text-read, text-short}
 
@@ -79,6 +80,23 @@ tasks-lines form sets above (t ∷ ts) e =
 step-fine : {X : Type 0} (line : ℕ) (rows : Conditions) (x : X) (next : X → Result Table Refusal) → unless_fault rows (tt {0}) ≡ Ok (tt {0}) → then_read (told line (unless_fault rows x)) next ≡ next x
 step-fine line rows x next e = rw (fine-any rows (tt {0}) x e).1
 
+-- a line with no B above 0 is passed over
+free-first : (l : List ℕ) (ls : List (List ℕ)) (line : ℕ) → is_blocked l ≡ false → first_blocked line (l ∷ ls) ≡ first_blocked (line + 1) ls
+unfolding first_blocked
+free-first l ls line e = ap (λ (b : Bool). cond b (Some line) (first_blocked (line + 1) ls)) e
+
+-- a table with a task may end
+ended-fine : (table : Table) → ltb 0 table.count ≡ true → ended table ≡ Ok table
+unfolding ended unless_fault
+ended-fine table e = go (eqb table.count 0) refl
+  where
+    some : 0 < table.count
+    some = ltb-true 0 table.count e
+
+    go : (t : Bool) → eqb table.count 0 ≡ t → told 1 (cond t (Err NoTask) (Ok table)) ≡ Ok table
+    go true q = let none = eqb-true table.count 0 q in absurd (omega (arith, none, some))
+    go false q = refl
+
 module _ (h : Head) (e : head_in_range h ≡ true) where
   few : h.sets ≤ 256
   few = few-sets h e
@@ -97,6 +115,18 @@ module _ (h : Head) (e : head_in_range h ≡ true) where
 
     task-line-adds : with_line (table_of h done []) l ≡ table_of h (done ++ (t ∷ [])) []
     task-line-adds = rw (f, task-says h.form ways h.sets few by-four done t n l f) (task-more h done [] t room)
+
+  free-tasks : (done todo : List Task) (rest : List (List ℕ)) → are_next h.form h.sets done todo ≡ true → ((line : ℕ) → first_blocked line rest ≡ None)
+      → (line : ℕ) → first_blocked line (map (join_with_byte 9) (map (task_fields h.form h.sets) todo) ++ rest) ≡ None
+  unfolding first_blocked are_next
+  free-tasks done [] rest p then line = then line
+  free-tasks done (t ∷ todo) rest p then line =
+      let q = both (is_next h.form h.sets done t) _ p in
+      let n = next-holds h.form h.sets done t q.0 in
+      let f = (is-line _ _ (task-plain h.form h.sets t (filled-name t.name n.filled).0)).0 in
+      free-first (join_with_byte 9 (task_fields h.form h.sets t)) (map (join_with_byte 9) (map (task_fields h.form h.sets) todo) ++ rest) line
+      (task-free h.form ways h.sets few by-four done t n (join_with_byte 9 (task_fields h.form h.sets t)) f)
+      ∙ (free-tasks (done ++ (t ∷ [])) todo rest q.1 then (line + 1))
 
   read-tasks : (done todo : List Task) (rest : List (List ℕ)) (o : Result Table Refusal) → are_next h.form h.sets done todo ≡ true → length done + length todo ≤ 32
       → ((line : ℕ) → read_from line (table_of h (done ++ todo) []) rest ≡ o)
@@ -124,15 +154,11 @@ module _ (h : Head) (e : head_in_range h ≡ true) where
       access-line-adds : with_line (table_of h ts done) l ≡ table_of h ts (done ++ (a ∷ []))
       access-line-adds = rw (f, its-tasks h ts done, access-says h.form ways h.sets few by-four ts names a n l f) (access-more h ts done a room)
 
-    read-accesses : (done todo : List Access) → list_all (is_entered h.form h.sets (length ts)) todo ≡ true → length done + length todo ≤ 32 → is_ok (ended (table_of h ts (done ++ todo))) ≡ true
+    read-accesses : (done todo : List Access) → list_all (is_entered h.form h.sets (length ts)) todo ≡ true → length done + length todo ≤ 32 → ltb 0 (length ts) ≡ true
         → (line : ℕ) → read_from line (table_of h ts done) (map (join_with_byte 9) (map (access_fields h.form h.sets ts) todo)) ≡ Ok (table_of h ts (done ++ todo))
     unfolding read_from
-    read-accesses done [] p room ends line = rw (append-nil done) (at-end (ended (table_of h ts done)) (rw (append-nil done) at ends))
-      where
-        at-end : (r : Result (Unit {0}) Refusal) → is_ok r ≡ true → then_read r (λ _. Ok (table_of h ts done)) ≡ Ok (table_of h ts done)
-        at-end (Ok u) q = refl
-        at-end (Err refusal) q = absurd (false≢true q)
-    read-accesses done (a ∷ todo) p room ends line =
+    read-accesses done [] p room some line = rw (append-nil done) (ended-fine (table_of h ts done) some)
+    read-accesses done (a ∷ todo) p room some line =
         let q = both (is_entered h.form h.sets (length ts) a) _ p in
         let n = entered-holds h.form h.sets (length ts) a q.0 in
         let here : length done < 32 = omega arith in
@@ -142,7 +168,19 @@ module _ (h : Head) (e : head_in_range h ≡ true) where
         let others = map (join_with_byte 9) (map (access_fields h.form h.sets ts) todo) in
         step-fine line (line_rows (table_of h ts done) l) (with_line (table_of h ts done) l) (λ table. read_from (line + 1) table others) (access-line-fine done a here n l f)
         ∙ ap (λ (table : Table). read_from (line + 1) table others) (access-line-adds done a here n l f)
-        ∙ rw all at (read-accesses (done ++ (a ∷ [])) todo q.1 (rw length-append (omega arith)) (rw all ends) (line + 1))
+        ∙ rw all at (read-accesses (done ++ (a ∷ [])) todo q.1 (rw length-append (omega arith)) some (line + 1))
+
+    free-accesses : (todo : List Access) → list_all (is_entered h.form h.sets (length ts)) todo ≡ true
+        → (line : ℕ) → first_blocked line (map (join_with_byte 9) (map (access_fields h.form h.sets ts) todo)) ≡ None
+    unfolding first_blocked
+    free-accesses [] p line = refl
+    free-accesses (a ∷ todo) p line =
+        let q = both (is_entered h.form h.sets (length ts) a) _ p in
+        let n = entered-holds h.form h.sets (length ts) a q.0 in
+        let f = (is-line _ _ (access-plain h.form ways h.sets few by-four ts names a n)).0 in
+        free-first (join_with_byte 9 (access_fields h.form h.sets ts a)) (map (join_with_byte 9) (map (access_fields h.form h.sets ts) todo)) line
+        (access-free h.form ways h.sets few by-four ts names a n (join_with_byte 9 (access_fields h.form h.sets ts a)) f)
+        ∙ (free-accesses todo q.1 (line + 1))
 
     pub accesses-lines : (todo : List Access) → list_all (is_entered h.form h.sets (length ts)) todo ≡ true → AreLines (map (access_fields h.form h.sets ts) todo)
     accesses-lines [] p = tt
@@ -150,23 +188,27 @@ module _ (h : Head) (e : head_in_range h ≡ true) where
         let q = both (is_entered h.form h.sets (length ts) a) _ p in
         (is-line _ _ (access-plain h.form ways h.sets few by-four ts names a (entered-holds h.form h.sets (length ts) a q.0)), accesses-lines todo q.1)
 
--- lists that pass the tests are read as their table, where it may end
+-- lists that pass the tests are read as their table, where there is a task
 module _ (h : Head) (ts : List Task) (accesses : List Access) (p : Passed h ts accesses) where
   names-of : Named ts
   names-of = named h.form h.sets ts p.tasks
 
-  read-lists : is_ok (ended (table_of h ts accesses)) ≡ true → read_lines (map (join_with_byte 9) (lines_so_far h ts accesses)) ≡ Ok (table_of h ts accesses)
-  unfolding read_lines
-  read-lists ends =
+  read-lists : ltb 0 (length ts) ≡ true → read_lines (map (join_with_byte 9) (lines_so_far h ts accesses)) ≡ Ok (table_of h ts accesses)
+  unfolding read_lines unless_blocked
+  read-lists some =
       let l = join_with_byte 9 (head_fields h.sets h.brt.0 h.form) in
       let f = (is-line _ _ (head-plain h)).0 in
       let task_lines = map (task_fields h.form h.sets) ts in
       let access_lines = map (access_fields h.form h.sets ts) accesses in
       let others = map (join_with_byte 9) (task_lines ++ access_lines) in
-      step-fine 1 (head_rows l) (head_said l) (λ head. read_from 2 (new_table head) others) (head-fine h p.head l f)
-      ∙ ap (λ (head : Head). read_from 2 (new_table head) others) (head-says h p.head l f)
-      ∙ ap (λ (ls : List (List ℕ)). read_from 2 (table_of h [] []) ls) (map-append (join_with_byte 9) task_lines access_lines)
-      ∙ read-tasks h p.head [] ts (map (join_with_byte 9) access_lines) _ p.tasks (omega (arith, p.few)) (read-accesses h p.head ts names-of [] accesses p.entered (omega (arith, p.few-accesses)) ends) 2
+      step-fine 1 (head_rows l) (head_said l) (λ head. read_below (new_table head) others) (head-fine h p.head l f)
+      ∙ ap (λ (head : Head). read_below (new_table head) others) (head-says h p.head l f)
+      ∙ ap (λ (ls : List (List ℕ)). read_below (table_of h [] []) ls) (map-append (join_with_byte 9) task_lines access_lines)
+      ∙ rw (
+        read-tasks h p.head [] ts (map (join_with_byte 9) access_lines) _ p.tasks (omega (arith, p.few)) (read-accesses h p.head ts names-of [] accesses p.entered (omega (arith, p.few-accesses)) some) 2,
+        free-tasks h p.head [] ts (map (join_with_byte 9) access_lines) p.tasks (free-accesses h p.head ts names-of accesses p.entered) 2,
+      )
+      refl
 
   lists-lines : AreLines (lines_so_far h ts accesses)
   lists-lines =
@@ -178,7 +220,7 @@ record Tested (table : Table) : Type 0 where
   few : table.count ≤ 32
   few-accesses : table.access_count ≤ 32
   head : head_in_range (head_of table) ≡ true
-  ends : is_ok (ended table) ≡ true
+  some : ltb 0 table.count ≡ true
   tasks : are_next table.form table.sets [] (tasks_of table) ≡ true
   entered : list_all (is_entered table.form table.sets table.count) (accesses_of table) ≡ true
   vacant : list_all is_vacant (drop table.count table.tasks) ≡ true
@@ -191,14 +233,14 @@ tests table e =
     let p5 = both _ (list_all is_vacant (drop table.count table.tasks)) p6.0 in
     let p4 = both _ (list_all (is_entered table.form table.sets table.count) (accesses_of table)) p5.0 in
     let p3 = both _ (are_next table.form table.sets [] (tasks_of table)) p4.0 in
-    let p2 = both _ (is_ok (ended table)) p3.0 in
+    let p2 = both _ (ltb 0 table.count) p3.0 in
     let p1 = both _ (head_in_range (head_of table)) p2.0 in
     let p0 = both _ _ p1.0 in
     record {
       few = leb-true _ _ p0.0;
       few-accesses = leb-true _ _ p0.1;
       head = p1.1;
-      ends = p2.1;
+      some = p2.1;
       tasks = p3.1;
       entered = p4.1;
       vacant = p5.1;
@@ -240,11 +282,8 @@ module _ (table : Table) (whole : Whole table) (e : is_readable table ≡ true) 
       let accesses = filled-up empty_access is_unused unused-empty table.accesses table.access_count whole.accesses tested.few-accesses tested.unused in
       λ i. record { sets = table.sets; brt = table.brt; form = table.form; count = sym counted i; tasks = tasks i; access_count = sym counted-accesses i; accesses = accesses i }
 
-  its-ends : is_ok (ended (table_of (head_of table) (tasks_of table) (accesses_of table))) ≡ true
-  its-ends = ap (λ (t : Table). is_ok (ended t)) (sym of-lists) ∙ tested.ends
-
   its-lines-read : read_lines (map (join_with_byte 9) (lines_of table)) ≡ Ok table
-  its-lines-read = read-lists (head_of table) (tasks_of table) (accesses_of table) its-lists its-ends ∙ ap Ok (sym of-lists)
+  its-lines-read = read-lists (head_of table) (tasks_of table) (accesses_of table) its-lists (rw counted tested.some) ∙ ap Ok (sym of-lists)
 
   -- it has all that may be used of an accepted table
   pub readable-accepted : AcceptedTable table
@@ -262,14 +301,14 @@ module _ (table : Table) (whole : Whole table) (e : is_readable table ≡ true) 
 
 -- lists that are read, in the table that is made of them
 module _ (h : Head) (ts : List Task) (accesses : List Access) (p : Passed h ts accesses) where
-  pub lists-readable : is_ok (ended (table_of h ts accesses)) ≡ true → length (table_text (table_of h ts accesses)) ≤ 16384 → is_readable (table_of h ts accesses) ≡ true
+  pub lists-readable : ltb 0 (length ts) ≡ true → length (table_text (table_of h ts accesses)) ≤ 16384 → is_readable (table_of h ts accesses) ≡ true
   unfolding has_lines
-  lists-readable ends short =
+  lists-readable some short =
       rw (
         le-leb (length ts) 32 p.few,
         le-leb (length accesses) 32 p.few-accesses,
         p.head,
-        ends,
+        some,
         its-tasks h ts accesses,
         p.tasks,
         its-accesses h ts accesses,

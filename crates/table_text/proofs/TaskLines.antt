@@ -1,12 +1,12 @@
 -- Line 1 and the line of a task: a line that says what is tested here is not refused and says the same again, and a line that is not refused is what is written of
 -- what it says, which passes the tests.
-use Rattle.std.proofs.Common.{◌≡◌, ℕ, ◌%◌, ◌≤◌, ◌<◌, Bool, true, false, not, ◌&&◌, ◌||◌, ◌⊎◌, inl, inr, List, [], ◌∷◌, length, get_or, refl, ap, ◌∙◌, arith, Option, Some, None, Ok, eqb-true, eqb}
+use Rattle.std.proofs.Common.{◌≡◌, ℕ, ◌%◌, ◌≤◌, ◌<◌, Bool, true, false, not, ◌&&◌, ◌||◌, ◌⊎◌, inl, inr, List, [], ◌∷◌, length, get_or, refl, ap, ◌∙◌, arith, Option, Some, None, Ok, eqb-true, eqb, ltb-false}
 use Rattle.std.proofs.lemmas.Bool.{false≢true, not-false, not-true}
 use Rattle.std.proofs.lemmas.Slice.Eq.{bytes_eq-Decides}
 use Rattle.std.specs.Prelude.{is_some, unwrap_or, option_map, slice_get}
 use Rattle.std.specs.Str.{bytes_eq}
 use Rattle.table.specs.Cut.{fields, field, field_count}
-use Rattle.table.specs.Fields.{is_letter, is_name, read_number, is_number, number, has_shape}
+use Rattle.table.specs.Fields.{is_letter, is_name, read_number, is_number, number, has_shape, is_within}
 use Rattle.cache.specs.declared.sets.CacheSet.{CacheSet}
 use Rattle.cache.specs.Field.{read_set}
 use Rattle.cache.specs.declared.useful.Form.{Form}
@@ -20,7 +20,8 @@ use Rattle.table.specs.declared.tasks.head.Head.{Head}
 use Rattle.table.specs.Tasks.{name_text, pack_name, no_sets, no_blocks}
 use Rattle.table.specs.Names.{is_filled, knows}
 use Rattle.table.specs.HeadLine.{is_head, ways_field, read_form, head_in_range, head_rows, head_said}
-use Rattle.table.specs.TaskLine.{times_of, times_said, times_in_range, times_in_order, task_rows, task_said}
+use Rattle.table.specs.TaskLine.{times_of, times_said, times_in_range, times_in_order, task_rows, task_said, has_blocking}
+use Rattle.table.specs.Reading.{is_blocked}
 use Rattle.table.proofs.Names.{name-kept}
 use Rattle.table.proofs.LineLaws.{both, lies, ranges, order}
 use Rattle.writing.specs.Text.{spelled}
@@ -226,11 +227,11 @@ task-plain form sets t h =
 module _ (form : Form) (w : ways_of form ≤ 8) (sets : ℕ) (few : sets ≤ 256) (by-four : sets % 4 ≡ 0) where
   -- a line with these fields says this task, and is not refused
   module _ (above : List Task) (t : Task) (h : NextHolds form sets above t) (l : List ℕ) (f : fields l ≡ task_fields form sets t) where
-    small : (t.work.0 < 1000000000) × (t.period.0 < 1000000000) × (t.deadline.0 < 1000000000) × (t.jitter.0 < 1000000000) × (t.blocking.0 < 1000000000)
+    small : (t.work.0 < 1000000000) × (t.period.0 < 1000000000) × (t.deadline.0 < 1000000000) × (t.jitter.0 < 1000000000)
     small =
         let r = ranges (times_of t) h.in-range in
         let o = order (times_of t) h.in_order in
-        (omega arith, omega arith, omega arith, omega arith, omega arith)
+        (omega arith, omega arith, omega arith, omega arith)
 
     pub task-says : task_said form sets l ≡ t
     unfolding task_said
@@ -243,10 +244,12 @@ module _ (form : Form) (w : ways_of form ≤ 8) (sets : ℕ) (few : sets ≤ 256
           number_read t.period.0 n.1,
           number_read t.deadline.0 n.2,
           number_read t.jitter.0 n.3,
-          number_read t.blocking.0 n.4,
           useful-read sets few by-four form t.ucb w h.ucb,
           marks-read sets few by-four t.ecb h.ecb,
         )
+
+    pub task-free : is_blocked l ≡ false
+    task-free = rw (f, number_read 0 (omega arith)) refl
 
     pub task-fine : unless_fault (task_rows form sets above l) (tt {0}) ≡ Ok (tt {0})
     unfolding task_rows unless_fault has_shape
@@ -260,7 +263,7 @@ module _ (form : Form) (w : ways_of form ≤ 8) (sets : ℕ) (few : sets ≤ 256
           number_read t.period.0 n.1,
           number_read t.deadline.0 n.2,
           number_read t.jitter.0 n.3,
-          number_read t.blocking.0 n.4,
+          number_read 0 (omega arith),
           useful-read sets few by-four form t.ucb w h.ucb,
           useful-within sets few by-four form t.ucb,
           marks-read sets few by-four t.ecb h.ecb,
@@ -275,10 +278,10 @@ module _ (form : Form) (w : ways_of form ≤ 8) (sets : ℕ) (few : sets ≤ 256
       shape : has_shape 84 9 l ≡ true
       name : is_name (field 1 l) ≡ true
       numbers : (is_number (field 2 l) && is_number (field 3 l) && is_number (field 4 l) && is_number (field 5 l) && is_number (field 6 l)) ≡ true
-      in-range : times_in_range (times_said (field 2 l) (field 3 l) (field 4 l) (field 5 l) (field 6 l)) ≡ true
+      in-range : times_in_range (times_said (field 2 l) (field 3 l) (field 4 l) (field 5 l)) ≡ true
       marks : (is_some (read_useful form sets (field 7 l)) && is_some (read_set sets (field 8 l))) ≡ true
       within : within_ways form (field 7 l) ≡ true
-      in_order : times_in_order (times_said (field 2 l) (field 3 l) (field 4 l) (field 5 l) (field 6 l)) ≡ true
+      in_order : times_in_order (times_said (field 2 l) (field 3 l) (field 4 l) (field 5 l)) ≡ true
       new-name : knows (pack_name (field 1 l)) above ≡ false
 
     rows : Rows
@@ -296,7 +299,7 @@ module _ (form : Form) (w : ways_of form ≤ 8) (sets : ℕ) (few : sets ≤ 256
           shape = not-false _ r1.0;
           name = not-false _ r2.0;
           numbers = not-false _ r3.0;
-          in-range = not-false _ r4.0;
+          in-range = (both _ (is_within 0 250000000 (number (field 6 l))) (not-false _ r4.0)).0;
           marks = not-false _ r5.0;
           within = not-false _ r6.0;
           in_order = not-false _ r7.0;
@@ -323,16 +326,18 @@ module _ (form : Form) (w : ways_of form ≤ 8) (sets : ℕ) (few : sets ≤ 256
           rows.new-name,
         )
 
-    pub task-is : fields l ≡ task_fields form sets (task_said form sets l)
+    -- where its B is 0
+    pub task-is : has_blocking l ≡ false → fields l ≡ task_fields form sets (task_said form sets l)
     unfolding task_said
-    task-is =
+    task-is free =
         let p6 = both _ (is_number (field 6 l)) rows.numbers in
         let p5 = both _ (is_number (field 5 l)) p6.0 in
         let p4 = both _ (is_number (field 4 l)) p5.0 in
         let p3 = both (is_number (field 2 l)) (is_number (field 3 l)) p4.0 in
-        let times = times_said (field 2 l) (field 3 l) (field 4 l) (field 5 l) (field 6 l) in
+        let times = times_said (field 2 l) (field 3 l) (field 4 l) (field 5 l) in
         let r = ranges times rows.in-range in
         let o = order times rows.in_order in
+        let zero : number (field 6 l) ≡ 0 = let low = ltb-false 0 _ free in omega arith in
         let shape = shape-says 84 9 l rows.shape in
         rw (
           name-kept (field 1 l) rows.name,
@@ -340,7 +345,7 @@ module _ (form : Form) (w : ways_of form ≤ 8) (sets : ℕ) (few : sets ≤ 256
           ← number-text (field 3 l) p3.1 (omega arith),
           ← number-text (field 4 l) p4.1 (omega arith),
           ← number-text (field 5 l) p5.1 (omega arith),
-          ← number-text (field 6 l) p6.1 (omega arith),
+          ← (number-text (field 6 l) p6.1 (omega arith) ∙ ap spelled zero),
           ← ucb-says.1,
           ← read-text sets few by-four (field 8 l) _ sets-say.1,
         )

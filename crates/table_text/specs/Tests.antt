@@ -1,5 +1,5 @@
 -- The tests by which a table value is found to be one that a text gives: those of the reader, on a table that is there already.
-use Rattle.std.specs.Prelude.{ℕ, Bool, true, not, ◌&&◌, List, [], ◌∷◌, ◌++◌, drop, replicate, length, is_ok, nat_le, nat_lt, ◌==◌}
+use Rattle.std.specs.Prelude.{ℕ, Bool, true, not, ◌&&◌, List, [], ◌∷◌, ◌++◌, drop, replicate, length, nat_le, nat_lt, ◌==◌}
 use Rattle.std.specs.List.{list_all}
 use Rattle.std.specs.Str.{bytes_eq}
 use Rattle.table.specs.Fields.{is_within}
@@ -15,7 +15,6 @@ use Rattle.writing.specs.Marks.{marks_fit, useful_fits}
 use Rattle.table_text.specs.TableText.{table_text}
 use Rattle.table.specs.declared.Table.{Table}
 use Rattle.table.specs.Tables.{tasks_of, accesses_of}
-use Rattle.table.specs.Reading.{ended}
 
 -- what line 1 says of a table
 abbrev pub head_of : Table → Head
@@ -47,7 +46,6 @@ is_vacant t =
     && t.period.0 == 0
     && t.deadline.0 == 0
     && t.jitter.0 == 0
-    && t.blocking.0 == 0
     && useful_fits Hex 0 t.ucb
     && marks_fit 0 t.ecb
 
@@ -55,14 +53,14 @@ is_vacant t =
 unfoldable pub is_unused : Access → Bool
 is_unused a = a.task == 0 && a.ceiling == 0 && a.lasts.0 == 0 && useful_fits Hex 0 a.ucb
 
--- there are at most 32 tasks and 32 accesses, line 1 can say the head, lines below it the tasks and the accesses, the table may end there, and the other places
--- are empty
+-- there are at most 32 tasks and 32 accesses, line 1 can say the head, there is a task, lines below can say the tasks and the accesses, and the other places are
+-- empty
 unfoldable pub has_lines : Table → Bool
 has_lines table =
     nat_le table.count 32
     && nat_le table.access_count 32
     && head_in_range (head_of table)
-    && is_ok (ended table)
+    && nat_lt 0 table.count
     && are_next table.form table.sets [] (tasks_of table)
     && list_all (is_entered table.form table.sets table.count) (accesses_of table)
     && list_all is_vacant (drop table.count table.tasks)

@@ -54,7 +54,7 @@ fn task_len(form: Form, sets: u64, task: &Task) -> usize
         + number_len(task.period.0)
         + number_len(task.deadline.0)
         + number_len(task.jitter.0)
-        + number_len(task.blocking.0);
+        + number_len(0);
     let blocks = useful_len(form, sets) + 1 + sets as usize / 4;
     3 + task.name.len() + times + blocks
 }

@@ -69,7 +69,6 @@ fn is_vacant(task: &Task) -> bool
         & (task.period.0 == 0)
         & (task.deadline.0 == 0)
         & (task.jitter.0 == 0)
-        & (task.blocking.0 == 0)
         & useful_fits(Form::Hex, 0, &task.ucb)
         & marks_fit(0, task.ecb)
 }
@@ -114,7 +113,7 @@ fn has_lines(table: &Table) -> bool
         form: table.form,
     };
     head.in_range()
-        && table.check_end().is_ok()
+        && 0 < table.count
         && are_next(table.form, table.sets, table.tasks())
         && are_entered(table.form, table.sets, table.count, table.accesses())
         && are_vacant(&places[table.count..])

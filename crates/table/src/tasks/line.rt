@@ -2,7 +2,7 @@
 ghost use Rattle.std.specs.Prelude.{◌≡◌, false, ◌&&◌, MatchOption};
 ghost use Rattle.table.specs.Fields.{has_shape};
 ghost use Rattle.table.specs.Rows.{unless_fault};
-ghost use Rattle.table.specs.TaskLine.{AreTaskFields, read_times, times_of, times_in_range, times_in_order, task_rows, task_said};
+ghost use Rattle.table.specs.TaskLine.{AreTaskFields, read_times, times_of, times_in_range, times_in_order, task_rows, task_said, blocking_said};
 
 use crate::fields;
 use crate::refusals::Reason;
@@ -47,33 +47,25 @@ fn cut(line: &[u8]) -> Option<TaskFields<'_>>
     if fields.is_done() { Some(cut) } else { None }
 }
 
-// C, T, D, J and B.
+// C, T, D and J.
 #[derive(Clone, Copy)]
 struct Times {
     work: Ticks,
     period: Ticks,
     deadline: Ticks,
     jitter: Ticks,
-    blocking: Ticks,
 }
 
 impl Times {
     #[tactic(auto, unfolding(crate::specs::TaskLine::read_times))]
-    fn read(
-        work: &[u8],
-        period: &[u8],
-        deadline: &[u8],
-        jitter: &[u8],
-        blocking: &[u8],
-    ) -> Option<Times>
-        ensures { result ≡ read_times work.now period.now deadline.now jitter.now blocking.now }
+    fn read(work: &[u8], period: &[u8], deadline: &[u8], jitter: &[u8]) -> Option<Times>
+        ensures { result ≡ read_times work.now period.now deadline.now jitter.now }
     {
         Some(Times {
             work: Ticks(fields::read_number(work)?),
             period: Ticks(fields::read_number(period)?),
             deadline: Ticks(fields::read_number(deadline)?),
             jitter: Ticks(fields::read_number(jitter)?),
-            blocking: Ticks(fields::read_number(blocking)?),
         })
     }
 
@@ -85,7 +77,6 @@ impl Times {
             & fields::is_within(1, 250000000, self.period.0)
             & fields::is_within(1, 250000000, self.deadline.0)
             & fields::is_within(0, 250000000, self.jitter.0)
-            & fields::is_within(0, 250000000, self.blocking.0)
     }
 
     #[tactic(auto, unfolding(crate::specs::TaskLine::times_in_order))]
@@ -105,7 +96,6 @@ impl Task {
             period: self.period,
             deadline: self.deadline,
             jitter: self.jitter,
-            blocking: self.blocking,
         }
     }
 
@@ -117,25 +107,21 @@ impl Task {
         times.in_range() & times.in_order()
     }
 
-    // The task that a line says in a table of this form with so many cache sets, below the tasks above it, or its first refusal.
+    // The task that a line says in a table of this form with so many cache sets, below the tasks above it, and the line's B; or its first refusal.
     #[tactic(auto, unfolding(crate::specs::TaskLine::task_rows, crate::specs::TaskLine::task_said, crate::specs::TaskLine::read_times, crate::specs::Rows::unless_fault))]
-    pub fn read(line: &[u8], form: Form, sets: u64, above: &[Task]) -> Result<Task, Reason>
-        ensures { result ≡ unless_fault (task_rows form sets above.now line.now) (task_said form sets line.now) }
+    pub fn read(line: &[u8], form: Form, sets: u64, above: &[Task]) -> Result<(Task, Ticks), Reason>
+        ensures { result ≡ unless_fault (task_rows form sets above.now line.now) (task_said form sets line.now, blocking_said line.now) }
     {
         let fields = cut(line).ok_or(Reason::Shape)?;
         if !fields::is_name(fields.name) {
             return Err(Reason::Name);
         }
         let name = Name::of(fields.name);
-        let times = Times::read(
-            fields.work,
-            fields.period,
-            fields.deadline,
-            fields.jitter,
-            fields.blocking,
-        )
-        .ok_or(Reason::Number)?;
-        if !times.in_range() {
+        let times = Times::read(fields.work, fields.period, fields.deadline, fields.jitter).ok_or(
+            Reason::Number,
+        )?;
+        let blocking = fields::read_number(fields.blocking).ok_or(Reason::Number)?;
+        if !(times.in_range() & fields::is_within(0, 250000000, blocking)) {
             return Err(Reason::Range);
         }
         let ucb = Useful::from_field(fields.ucb, sets, form).ok_or(Reason::Marks)?;
@@ -149,15 +135,15 @@ impl Task {
         if is_known(name, above) {
             return Err(Reason::KnownName);
         }
-        Ok(Task {
+        let task = Task {
             name,
             work: times.work,
             period: times.period,
             deadline: times.deadline,
             jitter: times.jitter,
-            blocking: times.blocking,
             ucb,
             ecb,
-        })
+        };
+        Ok((task, Ticks(blocking)))
     }
 }

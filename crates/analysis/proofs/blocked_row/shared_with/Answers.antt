@@ -1,5 +1,5 @@
 -- `blocked_row::shared_with` meets its contract.
-use Rattle.std.proofs.Common.{◌≡◌, sym, ap, ◌∙◌, arith}
+use Rattle.std.proofs.Common.{sym, ap, ◌∙◌, arith}
 use Rattle.cache.specs.Words.{members}
 use Rattle.cache.specs.Counts.{Counts, nothing, ◌⊕◌, capped, ◌on◌, total}
 use Rattle.cache.specs.Levels.{counts}

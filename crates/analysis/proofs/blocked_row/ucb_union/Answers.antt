@@ -1,5 +1,5 @@
 -- `blocked_row::ucb_union` meets its contract.
-use Rattle.std.proofs.Common.{ℕ, ◌≡◌, ◌+◌, ◌-◌, ap, ap₂, ◌∙◌, arith}
+use Rattle.std.proofs.Common.{◌≡◌, ◌+◌, ◌-◌, ap, ap₂, ◌∙◌, arith}
 use Rattle.cache.specs.Counts.{Counts, ◌on◌, ◌⊕◌, capped, total}
 use Rattle.cache.specs.Sets.{Set}
 use Rattle.cache.specs.Words.{members}

@@ -1,5 +1,5 @@
 -- `carried::add_column` meets its contract.
-use Rattle.std.proofs.Common.{ap, ◌∙◌, arith}
+use Rattle.std.proofs.Common.{arith}
 use Rattle.cache.proofs.LevelLaws.{heights-none}
 use Rattle.analysis.proofs.ColumnLaws.{column-none, ledger-next}
 use Rattle.analysis.proofs.carried.add_column.Goals as goal

@@ -1,13 +1,10 @@
 -- `need::need_under` meets its contract.
 use Rattle.std.proofs.Common.{◌≡◌, ◌<◌, length, get_or, refl, sym, ap, ◌∙◌, arith}
 use Rattle.std.specs.Prelude.{None}
-use Rattle.search.specs.declared.demand.Response.TheVariants.{Within}
-use Rattle.search.specs.Least.{later}
-use Rattle.table.specs.Tables.{at}
-use Rattle.table.specs.Accesses.{plain_access, blank_access}
+use Rattle.table.specs.Accesses.{empty_access, blank_access}
 use Rattle.analysis.specs.Analysis.{least_under}
 use Rattle.analysis.proofs.AnswerLaws.{plain-blocks, access-blocks}
-use Rattle.analysis.specs.Needs.{need_with, larger_of_some}
+use Rattle.analysis.specs.Needs.{larger_of_some}
 use Rattle.analysis.proofs.NeedLaws.{some-needed, none-needed, larger-later, needed-yes, needed-no}
 use Rattle.analysis.proofs.need.need_under.Goals as goal
 use Rattle.analysis.proofs.need.need_under.Goals.{then-may_block, else-may_block}
@@ -43,15 +40,12 @@ returns-in-Some c =
 pub need_while-requires-in-None : goal.need_while-requires-in-None
 need_while-requires-in-None c =
     let a = c.args in
-    let plain = c.plain_access.ensures ∙ ap plain_access c.task.ensures in
-    (c.requires.0, c.requires.1, c.charged-row.ensures, rw plain (plain-blocks a.table.now a.i c.requires.0 c.requires.1))
+    (c.requires.0, c.requires.1, c.charged-row.ensures, plain-blocks a.i)
 
 pub returns-in-None : goal.returns-in-None
 returns-in-None c =
     let a = c.args in
     let e : c.loop-n.n ≡ a.table.now.access_count = omega arith in
-    let plain = c.plain_access.ensures ∙ ap plain_access c.task.ensures in
     c.need_while-in-None.ensures
-    ∙ ap (need_with (λ b. later (Within (record { 0 = 0 })) (least_under a.table.now b a.method a.i 250000000)) a.method) plain
-    ∙ larger-later None (λ b. least_under a.table.now b a.method a.i 250000000) a.method (plain_access (at a.table.now a.i))
+    ∙ larger-later None (λ b. least_under a.table.now b a.method a.i 250000000) a.method empty_access
     ∙ none-needed a.table.now a.method a.i (sym c.in-None.is ∙ rw e at c.loop-n.invariant)

@@ -1,17 +1,21 @@
 -- `rows::over_all` meets its contract.
 use Rattle.std.proofs.Common.{ℕ, ◌≡◌, ◌<◌, refl, sym, ap, ◌∙◌, arith, take}
-use Rattle.table.specs.declared.accesses.Access.{Access}
-use Rattle.table.specs.Accesses.{blocking, plain_access}
-use Rattle.table.specs.Tables.{at}
-use Rattle.analysis.specs.declared.costs.Single.TheVariants.{None}
+use Rattle.table.specs.Accesses.{blocking}
 use Rattle.analysis.proofs.AnswerLaws.{plain-blocks, access-blocks}
-use Rattle.analysis.proofs.RowLaws.{row-handed, first, left, rising-first, weighed-plain, plain-longer, passed-first, passed-yes, passed-no, passed-again, answered-all, answered-plain}
+use Rattle.analysis.proofs.RowLaws.{plain-handed, plain-first, plain-left, rising-first, weighed-plain, plain-longer, passed-first, passed-yes, passed-no, passed-again, answered-all, answered-plain}
 use Rattle.analysis.proofs.rows.over_all.Goals as goal
 use Rattle.analysis.proofs.rows.over_all.Goals.{then-may_block+then-n-first, then-may_block+else-n-first, else-may_block}
 
 pub by_row-requires-clause-weighed : goal.by_row-requires-clause-weighed
 by_row-requires-clause-weighed c =
-    weighed-plain _ _ _ _ (ap (λ (a : Access). a.ceiling) c.plain_access-plain.ensures) c.requires.weighed
+    weighed-plain _ _ _ _ refl c.requires.weighed
+
+pub by_row-requires-clause-blocks : goal.by_row-requires-clause-blocks
+by_row-requires-clause-blocks c = plain-blocks c.args.i
+
+pub by_row-requires-clause-started : goal.by_row-requires-clause-started
+by_row-requires-clause-started c =
+    let t = c.requires.table in plain-longer c.args.table.now c.args.i _ _ t.0 t.1 (omega arith) c.requires.started
 
 pub by_row-requires-clause-rising : goal.by_row-requires-clause-rising
 by_row-requires-clause-rising c = rising-first
@@ -19,23 +23,18 @@ by_row-requires-clause-rising c = rising-first
 pub returns-then-table-eq0-clause-answered : goal.returns-then-table-eq0-clause-answered
 returns-then-table-eq0-clause-answered c =
     let a = c.args in
-    let plain = c.plain_access-plain.ensures ∙ ap plain_access c.task-task.ensures in
     let none : a.table.now.access_count ≡ 0 = omega arith in
-    answered-plain a.table.now a.i c.requires.table.0 (ap (λ (n : ℕ). blocking a.i (take n a.table.now.accesses)) none) (rw plain at c.by_row.ensures.with_one)
+    answered-plain a.table.now a.i c.requires.table.0 (ap (λ (n : ℕ). blocking a.i (take n a.table.now.accesses)) none) c.by_row.ensures.with_one
 
 pub least-requires : goal.least-requires
 least-requires c =
     let a = c.args in
     let t = c.requires.table in
-    let P = plain_access (at a.table.now a.i) in
-    let blocks = plain-blocks a.table.now a.i t.0 t.1 in
-    let weighed = weighed-plain a.table.now P a.i a.terms.now refl c.requires.weighed in
-    rw c.task-task.ensures
-    (row-handed a.table.now P a.i t.0 t.1 blocks a.terms.now weighed None, first a.table.now P a.i t.0 t.1 blocks a.terms.now weighed c.requires.started)
+    rw c.task-task.ensures (plain-handed a.table.now a.i t.0 t.1 a.terms.now c.requires.weighed, plain-first a.table.now a.i t.0 t.1 a.terms.now c.requires.weighed c.requires.started)
 
 pub by_row-requires-in_default-clause-weighed : goal.by_row-requires-in_default-clause-weighed
 by_row-requires-in_default-clause-weighed c =
-    weighed-plain _ _ _ _ (ap (λ (a : Access). a.ceiling) c.plain_access-plain.ensures) c.requires.weighed
+    weighed-plain _ _ _ _ refl c.requires.weighed
 
 pub by_row-requires-in_default-clause-rising : goal.by_row-requires-in_default-clause-rising
 by_row-requires-in_default-clause-rising c = rising-first
@@ -44,17 +43,13 @@ pub by_row-requires-in_default-clause-started : goal.by_row-requires-in_default-
 by_row-requires-in_default-clause-started c =
     let a = c.args in
     let t = c.requires.table in
-    let P = plain_access (at a.table.now a.i) in
-    let blocks = plain-blocks a.table.now a.i t.0 t.1 in
-    let weighed = weighed-plain a.table.now P a.i a.terms.now refl c.requires.weighed in
-    let plain = c.plain_access-plain.ensures ∙ ap plain_access c.task-task.ensures in
-    rw plain (left a.table.now P a.i t.0 t.1 blocks a.terms.now weighed (rw c.task-task.ensures at c.least.ensures.started))
+    let serves = plain-left a.table.now a.i t.0 t.1 a.terms.now c.requires.weighed (rw c.task-task.ensures at c.least.ensures.started) in
+    plain-longer a.table.now a.i _ _ t.0 t.1 (omega arith) serves
 
 pub returns-in_default-clause-answered : goal.returns-in_default-clause-answered
 returns-in_default-clause-answered c =
     let a = c.args in
-    let plain = c.plain_access-plain.ensures ∙ ap plain_access c.task-task.ensures in
-    answered-plain a.table.now a.i c.requires.table.0 c.in_default.ensures (rw plain at c.by_row-in_default.ensures.with_one)
+    answered-plain a.table.now a.i c.requires.table.0 c.in_default.ensures c.by_row-in_default.ensures.with_one
 
 pub under-latest-requires-clause-blocks : goal.under-latest-requires-clause-blocks
 under-latest-requires-clause-blocks c =
@@ -67,12 +62,8 @@ pub under-latest-requires-clause-started : goal.under-latest-requires-clause-sta
 under-latest-requires-clause-started c =
     let a = c.args in
     let t = c.requires.table in
-    let P = plain_access (at a.table.now a.i) in
-    let blocks = plain-blocks a.table.now a.i t.0 t.1 in
-    let weighed = weighed-plain a.table.now P a.i a.terms.now refl c.requires.weighed in
-    let unblocked = t.0.unblocked (omega arith) a.i t.1 in
-    plain-longer a.table.now a.i _ _ t.0 t.1 (omega (arith, unblocked))
-    (left a.table.now P a.i t.0 t.1 blocks a.terms.now weighed (rw c.task-task.ensures at c.least.ensures.started))
+    plain-longer a.table.now a.i _ _ t.0 t.1 (omega arith)
+    (plain-left a.table.now a.i t.0 t.1 a.terms.now c.requires.weighed (rw c.task-task.ensures at c.least.ensures.started))
 
 pub loop-n-init : goal.loop-n-init
 loop-n-init c = passed-first c.args.table.now c.args.i c.requires.table.0 c.requires.table.1 c.in-Some.first c.under-latest.ensures
@@ -85,12 +76,8 @@ pub under-latest-requires-then-n-first-clause-started : goal.under-latest-requir
 under-latest-requires-then-n-first-clause-started c =
     let a = c.args in
     let t = c.requires.table in
-    let P = plain_access (at a.table.now a.i) in
-    let blocks = plain-blocks a.table.now a.i t.0 t.1 in
-    let weighed = weighed-plain a.table.now P a.i a.terms.now refl c.requires.weighed in
-    let unblocked = t.0.unblocked (omega arith) a.i t.1 in
-    plain-longer a.table.now a.i _ _ t.0 t.1 (omega (arith, unblocked))
-    (left a.table.now P a.i t.0 t.1 blocks a.terms.now weighed (rw c.task-task.ensures at c.least.ensures.started))
+    plain-longer a.table.now a.i _ _ t.0 t.1 (omega arith)
+    (plain-left a.table.now a.i t.0 t.1 a.terms.now c.requires.weighed (rw c.task-task.ensures at c.least.ensures.started))
 
 pub loop-n-preserved : goal.loop-n-preserved
 loop-n-preserved c =
@@ -116,7 +103,4 @@ pub returns-clause-started : goal.returns-clause-started
 returns-clause-started c =
     let a = c.args in
     let t = c.requires.table in
-    let P = plain_access (at a.table.now a.i) in
-    let blocks = plain-blocks a.table.now a.i t.0 t.1 in
-    let weighed = weighed-plain a.table.now P a.i a.terms.now refl c.requires.weighed in
-    left a.table.now P a.i t.0 t.1 blocks a.terms.now weighed (rw c.task-task.ensures at c.least.ensures.started)
+    plain-left a.table.now a.i t.0 t.1 a.terms.now c.requires.weighed (rw c.task-task.ensures at c.least.ensures.started)

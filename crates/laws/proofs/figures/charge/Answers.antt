@@ -1,5 +1,6 @@
 -- `laws::figures::charge` meets its contract.
 use Rattle.std.proofs.Common.{◌∙◌, arith, zero-le}
+use Rattle.table.specs.Accesses.{empty_access}
 use Rattle.analysis.proofs.CostLaws.{charge-past}
 use Rattle.laws.proofs.FigureLaws.{charge-figured}
 use Rattle.laws.proofs.figures.charge.Goals as goal
@@ -10,5 +11,5 @@ bounds-row-j c = omega (arith, c.requires.0.few)
 pub returns : goal.returns
 returns c =
     let a = c.args in
-    let is = c.join.ensures.each a.j zero-le c.requires.2 ∙ charge-past a.table.now c.plain_access-plain.result a.method a.i a.j (rw c.plain_access-plain.ensures zero-le) in
+    let is = c.join.ensures.each a.j zero-le c.requires.2 ∙ charge-past a.table.now empty_access a.method a.i a.j zero-le in
     record { value = is; figure = charge-figured a.table.now a.method a.i a.j _ is }

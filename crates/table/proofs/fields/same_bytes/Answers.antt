@@ -1,5 +1,4 @@
-use Rattle.std.proofs.Common.{arith}
-use Rattle.table.proofs.FieldScan.{same-step, same-stop, same-end, same-lengths}
+use Rattle.table.proofs.FieldScan.{same-lengths}
 use Rattle.table.proofs.fields.same_bytes.Goals as goal
 
 pub returns-then-a-b : goal.returns-then-a-b
