@@ -1,6 +1,6 @@
 -- How a need is found, and what it says of the response.
-use Rattle.std.proofs.Common.{ℕ, ◌+◌, max, ◌≤◌, ◌<◌, arith, ◌≡◌, refl, sym, ap, ap₂, ◌∙◌, Bool, true, false, cond, List, [], ◌∷◌, ◌++◌, map, append-nil, ltb, leb, length, get_or, take, take-suc, add-one, le-leb, le-ltb, ltb-true, ltb-false, fold}
-use Rattle.std.proofs.Math.Decide.{dec_le}
+use Rattle.std.proofs.Common.{ℕ, ◌+◌, ◌-◌, max, ◌≤◌, ◌<◌, arith, ◌≡◌, refl, sym, ap, ap₂, ◌∙◌, Bool, true, false, cond, List, [], ◌∷◌, ◌++◌, map, append-nil, ltb, leb, length, get_or, take, take-suc, add-one, le-leb, le-ltb, lt-ltb, ltb-true, ltb-false, fold}
+use Rattle.std.proofs.Math.Decide.{dec_le, dec_lt}
 use Rattle.std.proofs.lemmas.Bool.{lt-leb}
 use Rattle.std.proofs.lemmas.List.{map-append}
 use Rattle.std.proofs.lemmas.List.Sums.{fold-append}
@@ -10,7 +10,7 @@ use Rattle.search.specs.declared.demand.Response.{Response}
 use Rattle.search.specs.declared.demand.Response.TheVariants.{Within, Unschedulable}
 use Rattle.search.specs.Least.{least_of, LeastWithin, sooner, later, latest_of}
 use Rattle.search.proofs.LeastLaws.{least_of-least, least-is}
-use Rattle.search.proofs.LaterLaws.{later_first, latest-front}
+use Rattle.search.proofs.LaterLaws.{latest-front}
 use Rattle.table.specs.Tasks.{limit_of}
 use Rattle.table.specs.declared.accesses.Access.{Access}
 use Rattle.table.specs.Accesses.{may_block, blocking, or_else, empty_access, blank_access}
@@ -24,7 +24,7 @@ use Rattle.analysis.specs.declared.costs.Single.TheVariants.{UcbUnion, EcbUnion}
 use Rattle.analysis.specs.declared.Method.{Method}
 use Rattle.analysis.specs.declared.Method.TheVariants.{Of, Combined}
 use Rattle.analysis.specs.declared.need.Need.{Need}
-use Rattle.analysis.specs.Needs.{is_sooner, need_with, larger_need, time_of, larger_of_some, largest_need, needed_of, smaller_of, need_of}
+use Rattle.analysis.specs.Needs.{is_sooner, need_with, larger_need, largest_need, needed_of, smaller_of, need_of, MayBlockAt, need_at, just_before}
 
 -- what holds of what is needed under each method that counts holds of the need that is explained
 pub need-by : (P : Need → Type 0) (table : Table) (i : ℕ) (m : Method) → ((k : Single) → P (needed_of table k i)) → P (need_of table m i)
@@ -38,8 +38,13 @@ need-by P table i Combined each = union (is_sooner (needed_of table UcbUnion i).
 
 -- ---- over the accesses that may block, one after the other
 
+-- the larger of the one so far, if there is one, and another
+abbrev larger_of_some : Option Need → Need → Need
+larger_of_some None need = need
+larger_of_some (Some so_far) need = larger_need so_far need
+
 -- the largest over some accesses, if there are some
-abbrev pub largest_some : (Access → Need) → List Access → Option Need
+abbrev largest_some : (Access → Need) → List Access → Option Need
 largest_some W [] = None
 largest_some W (a ∷ l) = Some (largest_need W (a ∷ l))
 
@@ -50,11 +55,11 @@ larger-self a = pick (is_sooner a.time a.time)
     pick true = refl
     pick false = refl
 
-pub largest-one : (W : Access → Need) (a : Access) → largest_need W (a ∷ []) ≡ W a
+largest-one : (W : Access → Need) (a : Access) → largest_need W (a ∷ []) ≡ W a
 largest-one W a = larger-self (W a)
 
 -- one more at the end
-pub largest-next : (W : Access → Need) (l : List Access) (a : Access) → Some (larger_of_some (largest_some W l) (W a)) ≡ largest_some W (l ++ (a ∷ []))
+largest-next : (W : Access → Need) (l : List Access) (a : Access) → Some (larger_of_some (largest_some W l) (W a)) ≡ largest_some W (l ++ (a ∷ []))
 largest-next W [] a = ap Some (sym (largest-one W a))
 largest-next W (b ∷ l) a =
     ap Some (
@@ -62,34 +67,73 @@ largest-next W (b ∷ l) a =
     ∙ ap (λ (ns : List Need). fold larger_need (W b) ns) (sym (map-append W (b ∷ l) (a ∷ [])))
     )
 
--- one that is no larger than the largest so far may be told to be as large
-pub larger-later : (so_far : Option Need) (N : Access → Response) (m : Single) (a : Access)
-    → larger_of_some so_far (need_with (λ b. later (time_of so_far) (N b)) m a) ≡ larger_of_some so_far (need_with N m a)
-larger-later None N m a = ap told (later_first (N a))
-  where
-    told : Response → Need
-    told r = record { method = m; time = r; blocker = a }
-larger-later (Some q) N m a = go q.time (N a)
-  where
-    told : Response → Need
-    told r = record { method = m; time = r; blocker = a }
+-- a need that is larger than all of these, or as large as the largest
+abbrev Below : Option Need → Response → Type 0
+Below None t = Unit {0}
+Below (Some need) t = is_sooner need.time t ≡ true
 
-    go : (t r : Response) → cond (is_sooner t (later t r)) (told (later t r)) q ≡ cond (is_sooner t r) (told r) q
-    go (Within x) (Within y) = elim (dec_le y.0 x.0) [
-      | yes l ↦ (
-          let e : max x.0 y.0 ≡ x.0 = omega arith in
-          rw (e, le-ltb x.0 x.0 (omega arith), le-ltb x.0 y.0 l) refl)
-      | no l ↦ (let e : max x.0 y.0 ≡ y.0 = omega arith in rw e refl)
-    ]
-    go (Within x) Unschedulable = refl
-    go Unschedulable r = refl
+below-larger : (so_far : Option Need) (need : Need) → Below so_far need.time → larger_of_some so_far need ≡ need
+below-larger None need p = refl
+below-larger (Some q) need p = rw p refl
+
+below-both : (so_far : Option Need) (need : Need) (t : Response) → Below so_far t → is_sooner need.time t ≡ true → Below (Some (larger_of_some so_far need)) t
+below-both None need t p e = e
+below-both (Some q) need t p e = pick (is_sooner q.time need.time)
+  where
+    pick : (b : Bool) → is_sooner (cond b need q).time t ≡ true
+    pick true = e
+    pick false = p
+
+-- the order of times
+sooner-than : (a t u : Response) → is_sooner a t ≡ true → is_sooner u t ≡ false → is_sooner a u ≡ true
+sooner-than (Within x) (Within y) (Within z) p q = let l = ltb-true x.0 y.0 p in let k = ltb-false z.0 y.0 q in lt-ltb x.0 z.0 (omega arith)
+sooner-than (Within x) Unschedulable (Within z) p q = cc
+sooner-than (Within x) t Unschedulable p q = refl
+sooner-than Unschedulable t u p q = cc
+
+below-later : (so_far : Option Need) (t u : Response) → Below so_far t → is_sooner u t ≡ false → Below so_far u
+below-later None t u p e = tt
+below-later (Some q) t u p e = sooner-than q.time t u p e
+
+-- one that is asked whether it needs no less than the latest
+no-less : (t w : Response) (known : Ticks) → is_sooner (later (just_before t known) w) t ≡ false → (later (just_before t known) w ≡ w) × (is_sooner w t ≡ false)
+no-less (Within x) (Within y) known e =
+    let l = ltb-false (max (x.0 - 1) y.0) x.0 e in (ap (λ (n : ℕ). Within (record { 0 = n })) (omega arith), le-ltb y.0 x.0 (omega arith))
+no-less (Within x) Unschedulable known e = (refl, refl)
+no-less Unschedulable (Within y) known e = cc
+no-less Unschedulable Unschedulable known e = (refl, refl)
+
+less : (t w : Response) (known : Ticks) → is_sooner (later (just_before t known) w) t ≡ true → is_sooner w t ≡ true
+less (Within x) (Within y) known e = let l = ltb-true (max (x.0 - 1) y.0) x.0 e in lt-ltb y.0 x.0 (omega arith)
+less (Within x) Unschedulable known e = cc
+less Unschedulable (Within y) known e = refl
+less Unschedulable Unschedulable known e = cc
+
+-- and one that is asked whether it needs more
+more : (t w : Response) → is_sooner t (later t w) ≡ true → (later t w ≡ w) × (is_sooner t w ≡ true)
+more (Within x) (Within y) e =
+    let l = ltb-true x.0 (max x.0 y.0) e in (ap (λ (n : ℕ). Within (record { 0 = n })) (omega arith), lt-ltb x.0 y.0 (omega arith))
+more (Within x) Unschedulable e = (refl, refl)
+more Unschedulable w e = cc
+
+no-more : (t w : Response) → is_sooner t (later t w) ≡ false → is_sooner t w ≡ false
+no-more (Within x) (Within y) e = let l = ltb-false x.0 (max x.0 y.0) e in le-ltb x.0 y.0 (omega arith)
+no-more (Within x) Unschedulable e = cc
+no-more Unschedulable w e = refl
 
 -- what was found over all that may block the task
 module _ (table : Table) (m : Single) (i : ℕ) where
   abbrev W : Access → Need
   W = need_with (λ a. least_under table a m i 250000000) m
 
-  pub some-needed : (need : Need) → Some need ≡ largest_some W (blocking i (accesses_of table)) → need ≡ needed_of table m i
+  abbrev access : ℕ → Access
+  access n = get_or table.accesses n blank_access
+
+  -- the largest of the first n that may block
+  abbrev S : ℕ → Option Need
+  S n = largest_some W (blocking i (take n table.accesses))
+
+  some-needed : (need : Need) → Some need ≡ largest_some W (blocking i (accesses_of table)) → need ≡ needed_of table m i
   unfolding needed_of
   some-needed need e = go (blocking i (accesses_of table)) e
     where
@@ -97,30 +141,112 @@ module _ (table : Table) (m : Single) (i : ℕ) where
       go [] e = cc
       go (a ∷ l) e = cc
 
-  pub none-needed : None ≡ largest_some W (blocking i (accesses_of table)) → W empty_access ≡ needed_of table m i
+  pub none-needed : blocking i (accesses_of table) ≡ [] → W empty_access ≡ needed_of table m i
   unfolding needed_of
-  none-needed e = go (blocking i (accesses_of table)) e
-    where
-      go : (l : List Access) → None ≡ largest_some W l → W empty_access ≡ largest_need W (or_else empty_access l)
-      go [] e = sym (largest-one W empty_access)
-      go (a ∷ l) e = cc
+  none-needed e = sym (largest-one W empty_access) ∙ ap (λ (l : List Access). largest_need W (or_else empty_access l)) (sym e)
 
-  -- the accesses one after the other
-  module _ (n : ℕ) (few : n < length table.accesses) {so_far : Option Need} (p : so_far ≡ largest_some W (blocking i (take n table.accesses))) where
-    next : blocking i (take (n + 1) table.accesses)
-        ≡ blocking i (take n table.accesses) ++ cond (may_block i (get_or table.accesses n blank_access)) (get_or table.accesses n blank_access ∷ []) []
-    next = rw (add-one, take-suc table.accesses n blank_access few) (blocking-snoc i (take n table.accesses) (get_or table.accesses n blank_access))
+  -- after the first n accesses: the one at k needs the most of these and itself, and no earlier one as much
+  pub record First (n k : ℕ) (time : Response) : Type 0 where
+    pub held : MayBlockAt table i k
+    pub is : time ≡ need_at table m i k
+    pub among : k < n → Some (W (access k)) ≡ S n
+    pub ahead : n ≤ k → Below (S n) (need_at table m i k)
 
-    pub needed-yes : may_block i (get_or table.accesses n blank_access) ≡ true → (need : Need) → need ≡ larger_of_some so_far (W (get_or table.accesses n blank_access))
-        → Some need ≡ largest_some W (blocking i (take (n + 1) table.accesses))
-    needed-yes e need is =
-        let more : blocking i (take (n + 1) table.accesses) ≡ blocking i (take n table.accesses) ++ (get_or table.accesses n blank_access ∷ []) = rw e at next in
-        rw (more, is, p) (largest-next W (blocking i (take n table.accesses)) (get_or table.accesses n blank_access))
+  pub first-begun : {k : ℕ} {time : Response} → MayBlockAt table i k → time ≡ need_at table m i k → First 0 k time
+  first-begun h e = record { held = h; is = e; among = λ l. absurd (omega arith); ahead = λ l. tt }
 
-    pub needed-no : may_block i (get_or table.accesses n blank_access) ≡ false → so_far ≡ largest_some W (blocking i (take (n + 1) table.accesses))
-    needed-no e =
-        let same : blocking i (take (n + 1) table.accesses) ≡ blocking i (take n table.accesses) = rw e at next ∙ append-nil (blocking i (take n table.accesses)) in
-        rw same p
+  module _ (n : ℕ) (few : n < length table.accesses) {k : ℕ} {time : Response} (p : First n k time) where
+    next : blocking i (take (n + 1) table.accesses) ≡ blocking i (take n table.accesses) ++ cond (may_block i (access n)) (access n ∷ []) []
+    next = rw (add-one, take-suc table.accesses n blank_access few) (blocking-snoc i (take n table.accesses) (access n))
+
+    next-yes : may_block i (access n) ≡ true → S (n + 1) ≡ Some (larger_of_some (S n) (W (access n)))
+    next-yes e = ap (largest_some W) (rw e at next) ∙ sym (largest-next W (blocking i (take n table.accesses)) (access n))
+
+    next-no : may_block i (access n) ≡ false → S (n + 1) ≡ S n
+    next-no e = ap (largest_some W) (rw e at next ∙ append-nil (blocking i (take n table.accesses)))
+
+    -- it may not block the task
+    pub first-none : may_block i (access n) ≡ false → First (n + 1) k time
+    first-none e =
+        let other : n ≡ k → ⊥ = λ h. (let yes : may_block i (access n) ≡ true = rw h p.held.1 in let no : true ≡ false = sym yes ∙ e in cc) in
+        record {
+          held = p.held;
+          is = p.is;
+          among = λ l. elim (dec_lt k n) [ yes h ↦ p.among h ∙ sym (next-no e) | no h ↦ absurd (other (omega arith)) ];
+          ahead = λ l. rw (next-no e) (p.ahead (omega arith));
+        }
+
+    -- it is the one at k
+    pub first-same : n ≡ k → First (n + 1) k time
+    first-same h =
+        let yes : may_block i (access n) ≡ true = rw h p.held.1 in
+        let need : access n ≡ access k = ap access h in
+        record {
+          held = p.held;
+          is = p.is;
+          among = λ l. ap Some (sym (below-larger (S n) (W (access k)) (p.ahead (omega arith)))) ∙ ap (λ (a : Access). Some (larger_of_some (S n) (W a))) (sym need) ∙ sym (next-yes yes);
+          ahead = λ l. absurd (omega arith);
+        }
+
+    module _ (blocks : may_block i (access n) ≡ true) where
+      -- one before that at k, which needs no less, or less
+      module _ (before : n < k) (known : Ticks) {own : Response} (is : own ≡ later (just_before time known) (need_at table m i n)) where
+        pub first-before : n < table.access_count → is_sooner own time ≡ false → First (n + 1) n own
+        first-before h e =
+            let w = no-less time (need_at table m i n) known (rw is at e) in
+            let t : is_sooner (need_at table m i n) (need_at table m i k) ≡ false = rw p.is at w.1 in
+            record {
+              held = (h, blocks);
+              is = is ∙ w.0;
+              among = λ l. ap Some (sym (below-larger (S n) (W (access n)) (below-later (S n) _ _ (p.ahead (omega arith)) t))) ∙ sym (next-yes blocks);
+              ahead = λ l. absurd (omega arith);
+            }
+
+        pub first-kept : is_sooner own time ≡ true → First (n + 1) k time
+        first-kept e =
+            let w = less time (need_at table m i n) known (rw is at e) in
+            record {
+              held = p.held;
+              is = p.is;
+              among = λ l. absurd (omega arith);
+              ahead = λ l. rw (next-yes blocks) (below-both (S n) (W (access n)) _ (p.ahead (omega arith)) (rw p.is at w));
+            }
+
+      -- one behind it, which needs more, or no more
+      module _ (behind : k < n) {own : Response} (is : own ≡ later time (need_at table m i n)) where
+        pub first-behind : n < table.access_count → is_sooner time own ≡ true → First (n + 1) n own
+        first-behind h e =
+            let w = more time (need_at table m i n) (rw is at e) in
+            let t : is_sooner (need_at table m i k) (need_at table m i n) ≡ true = rw p.is at w.1 in
+            record {
+              held = (h, blocks);
+              is = is ∙ w.0;
+              among = λ l. ap Some (sym (taken t)) ∙ ap (λ (s : Option Need). Some (larger_of_some s (W (access n)))) (p.among behind) ∙ sym (next-yes blocks);
+              ahead = λ l. absurd (omega arith);
+            }
+          where
+            taken : is_sooner (need_at table m i k) (need_at table m i n) ≡ true → larger_need (W (access k)) (W (access n)) ≡ W (access n)
+            taken t = rw t refl
+
+        pub first-still : is_sooner time own ≡ false → First (n + 1) k time
+        first-still e =
+            let w = no-more time (need_at table m i n) (rw is at e) in
+            let t : is_sooner (need_at table m i k) (need_at table m i n) ≡ false = rw p.is at w in
+            record {
+              held = p.held;
+              is = p.is;
+              among = λ l. ap Some (sym (left t)) ∙ ap (λ (s : Option Need). Some (larger_of_some s (W (access n)))) (p.among behind) ∙ sym (next-yes blocks);
+              ahead = λ l. absurd (omega arith);
+            }
+          where
+            left : is_sooner (need_at table m i k) (need_at table m i n) ≡ false → larger_need (W (access k)) (W (access n)) ≡ W (access k)
+            left t = rw t refl
+
+  -- after all of them
+  pub first-needed : (n k : ℕ) (time : Response) → First n k time → n ≡ table.access_count → record { method = m; time = time; blocker = access k } ≡ needed_of table m i
+  first-needed n k time p e =
+      let w : record { method = m; time = time; blocker = access k } ≡ W (access k) = ap (λ (t : Response). record { method = m; time = t; blocker = access k }) p.is in
+      some-needed _ (ap Some w ∙ p.among (omega (arith, p.held.0, e)) ∙ ap S e)
 
 -- what holds of each need holds of the largest
 pub largest-by : (P : Need → Type 0) (W : Access → Need) (l : List Access) → 1 ≤ length l → Every (λ a. P (W a)) l → P (largest_need W l)

@@ -1,9 +1,10 @@
 -- What a task needs, whatever its limit is, the method under which that is explained, and what blocks the task then.
-use Rattle.std.specs.Prelude.{ℕ, Bool, true, false, Option, Some, None, List, map, if◌then◌else◌, nat_lt, slice_index_or, fold}
+use Rattle.std.specs.Prelude.{ℕ, ◌-◌, ◌<◌, ◌≡◌, Bool, true, false, List, map, if◌then◌else◌, nat_lt, slice_index_or, fold}
+use Rattle.cache.specs.declared.units.Ticks.{Ticks}
 use Rattle.search.specs.declared.demand.Response.{Response}
 use Rattle.search.specs.declared.demand.Response.TheVariants.{Within, Unschedulable}
 use Rattle.table.specs.declared.accesses.Access.{Access}
-use Rattle.table.specs.Accesses.{blank_access}
+use Rattle.table.specs.Accesses.{may_block, blank_access}
 use Rattle.table.specs.declared.Table.{Table}
 use Rattle.analysis.specs.declared.costs.Single.{Single}
 use Rattle.analysis.specs.declared.costs.Single.TheVariants.{UcbUnion, EcbUnion}
@@ -26,16 +27,6 @@ need_with N m a = record { method = m; time = N a; blocker = a }
 abbrev pub larger_need : Need → Need → Need
 larger_need a b = if is_sooner a.time b.time then b else a
 
--- the time of the one so far, and 0 before there is one
-abbrev pub time_of : Option Need → Response
-time_of None = Within (record { 0 = 0 })
-time_of (Some need) = need.time
-
--- the larger of the one so far, if there is one, and another
-abbrev pub larger_of_some : Option Need → Need → Need
-larger_of_some None need = need
-larger_of_some (Some so_far) need = larger_need so_far need
-
 -- the largest over these accesses, where W has that of each, and the first of them where they are equal
 abbrev pub largest_need : (Access → Need) → List Access → Need
 largest_need W blockers = fold larger_need (W (slice_index_or blockers 0 blank_access)) (map W blockers)
@@ -53,3 +44,18 @@ smaller_of a b = if is_sooner a.time b.time then a else b
 unfoldable pub need_of : Table → Method → ℕ → Need
 need_of table (Of m) i = needed_of table m i
 need_of table Combined i = smaller_of (needed_of table UcbUnion i) (needed_of table EcbUnion i)
+
+-- ---- how it is found
+
+-- where an access stands that may block the task at i
+abbrev pub MayBlockAt : Table → ℕ → ℕ → Type 0
+MayBlockAt table i k = (k < table.access_count) × (may_block i (slice_index_or table.accesses k blank_access) ≡ true)
+
+-- what is needed while that one blocks
+abbrev pub need_at : Table → Single → ℕ → ℕ → Response
+need_at table m i k = least_under table (slice_index_or table.accesses k blank_access) m i 250000000
+
+-- the time before another, and one that is known where the other is beyond
+abbrev pub just_before : Response → Ticks → Response
+just_before (Within t) known = Within (record { 0 = t.0 - 1 })
+just_before Unschedulable known = Within known

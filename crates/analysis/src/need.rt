@@ -1,12 +1,11 @@
 // What a task needs, whatever its limit is, by which method, and what blocks it then: the figure that an explanation is about. specs/Needs.antt says what
 // that is.
 
-ghost use Rattle.std.specs.Prelude.{◌≡◌, ◌<◌};
+ghost use Rattle.std.specs.Prelude.{ℕ, ◌≡◌, ◌<◌, ◌≤◌, Some};
 ghost use Rattle.search.specs.Least.{later};
 ghost use Rattle.table.specs.Accepted.{AcceptedTable};
 ghost use Rattle.analysis.specs.Row.{Begun};
-ghost use Rattle.analysis.specs.Analysis.{least_under, Blocks};
-ghost use Rattle.analysis.specs.Needs.{is_sooner, need_with, larger_need, larger_of_some, time_of, smaller_of, needed_of, need_of};
+ghost use Rattle.analysis.specs.Needs.{is_sooner, smaller_of, needed_of, need_of, MayBlockAt, need_at, just_before};
 
 use crate::costs::{Charge, Single};
 use crate::{Method, one_row};
@@ -40,17 +39,6 @@ fn is_sooner(a: Response, b: Response) -> bool
 }
 
 impl Need {
-    // The larger of two needs, and the first where they are equal.
-    fn larger(self, other: Need) -> Need
-        ensures { result ≡ larger_need self other }
-    {
-        if is_sooner(self.time, other.time) {
-            other
-        } else {
-            self
-        }
-    }
-
     // The smaller of two needs, and the second where they are equal.
     fn smaller(self, other: Need) -> Need
         ensures { result ≡ smaller_of self other }
@@ -61,72 +49,133 @@ impl Need {
             other
         }
     }
-
-    // The larger of it and the one so far, if there is one.
-    fn or_larger(self, so_far: Option<Need>) -> Need
-        ensures { result ≡ larger_of_some so_far self }
-    {
-        match so_far {
-            None => self,
-            Some(need) => need.larger(self),
-        }
-    }
 }
 
-// What the task at i needs under a method while an access blocks it, or the time so far where that is later. `row` has the charges of the method without the
-// access.
+// Where an access stands, what the task needs while it blocks, and a time that others may be found to need no more than.
+#[derive(Clone, Copy)]
+struct Start {
+    at: usize,
+    time: Response,
+    known: Ticks,
+}
+
+// Where the longest access stands that may block the task at i, of those before the one at `end`, if there is one: the first of them.
+fn longest_before(table: &Table, i: usize, end: usize) -> Option<usize>
+    requires { AcceptedTable table.now × (end ≤ table.now.access_count) }
+    ensures { (k : ℕ) → result ≡ Some k → MayBlockAt table.now i k }
+{
+    let mut found: Option<usize> = None;
+    let mut most: u64 = 0;
+    for n in 0..end {
+        let access = &table.accesses[n];
+        if access.may_block(i) {
+            if most < access.lasts.0 {
+                found = Some(n);
+                most = access.lasts.0;
+            }
+        }
+    }
+    found
+}
+
+// What the task at i needs under a method while the access at k blocks it, or the time so far where that is later. `row` has the charges of the method without
+// an access.
 fn need_while(
     table: &Table,
     method: Single,
     i: usize,
     row: &[Charge; 32],
-    access: &Access,
+    k: usize,
     so_far: Response,
-) -> Need
-    requires { AcceptedTable table.now × (i < table.now.count) × Begun table.now method i row.now × Blocks i access.now }
-    ensures { result ≡ need_with (λ a. later so_far (least_under table.now a method i 250000000)) method access.now }
+) -> Response
+    requires { AcceptedTable table.now × (i < table.now.count) × Begun table.now method i row.now × MayBlockAt table.now i k }
+    ensures { result ≡ later so_far (need_at table.now method i k) }
 {
-    Need {
-        method,
-        time: crate::later_under(table, method, i, FURTHEST, row, access, so_far),
-        blocker: *access,
+    crate::later_under(table, method, i, FURTHEST, row, &table.accesses[k], so_far)
+}
+
+// What to begin with: the longest access, or where there is no time while it blocks, the longest before it, until there is one. Those before that add no more
+// reloads then need no more than that time, and are not searched for. Any access would do, and any time.
+fn begin_with(table: &Table, method: Single, i: usize, row: &[Charge; 32], longest: usize) -> Start
+    requires { AcceptedTable table.now × (i < table.now.count) × Begun table.now method i row.now × MayBlockAt table.now i longest }
+    ensures { MayBlockAt table.now i result.at × (result.time ≡ need_at table.now method i result.at) }
+{
+    let any = Response::Within(Ticks(0));
+    let time = need_while(table, method, i, row, longest, any);
+    let mut start = Start {
+        at: longest,
+        time,
+        known: FURTHEST,
+    };
+    for _ in 0..table.access_count {
+        let Response::Unschedulable = start.time else {
+            return start;
+        };
+        let Some(next) = longest_before(table, i, start.at) else {
+            return start;
+        };
+        match need_while(table, method, i, row, next, any) {
+            Response::Within(known) => {
+                start.known = known;
+                return start;
+            }
+            Response::Unschedulable => start.at = next,
+        }
+    }
+    start
+}
+
+// A time that is sooner than the latest so far: the one before it, or where that is beyond every time, the one that is known.
+fn just_before(latest: Response, known: Ticks) -> Response
+    ensures { result ≡ just_before latest known }
+{
+    match latest {
+        Response::Within(time) => Response::Within(Ticks(time.0.saturating_sub(1))),
+        Response::Unschedulable => Response::Within(known),
     }
 }
 
-// The time of the need so far; before any, none is smaller.
-fn time_of(so_far: Option<Need>) -> Response
-    ensures { result ≡ time_of so_far }
-{
-    match so_far {
-        None => Response::Within(Ticks(0)),
-        Some(need) => need.time,
-    }
-}
-
-// The largest of these over all that may block the task.
+// The largest of what the task at i needs while each access blocks that may, and the first of those that are equal. Of one before the largest so far it is asked
+// whether it needs no less, and of one behind, whether it needs more.
 fn need_under(table: &Table, method: Single, i: usize) -> Need
     requires { AcceptedTable table.now × (i < table.now.count) }
     ensures { result ≡ needed_of table.now method i }
 {
     let row = one_row::charged(table, method, i);
-    let mut largest: Option<Need> = None;
+    let Some(longest) = crate::longest(table, i) else {
+        let any = Response::Within(Ticks(0));
+        return Need {
+            method,
+            time: crate::later_under(table, method, i, FURTHEST, &row, &Access::NONE, any),
+            blocker: Access::NONE,
+        };
+    };
+    let start = begin_with(table, method, i, &row, longest);
+    let mut at = start.at;
+    let mut time = start.time;
     for n in 0..table.access_count {
-        let access = &table.accesses[n];
-        if access.may_block(i) {
-            let time = time_of(largest);
-            largest = Some(need_while(table, method, i, &row, access, time).or_larger(largest));
+        if table.accesses[n].may_block(i) {
+            if n < at {
+                let own = need_while(table, method, i, &row, n, just_before(time, start.known));
+                let no_less = !is_sooner(own, time);
+                if no_less {
+                    at = n;
+                    time = own;
+                }
+            } else if at < n {
+                let own = need_while(table, method, i, &row, n, time);
+                let more = is_sooner(time, own);
+                if more {
+                    at = n;
+                    time = own;
+                }
+            }
         }
     }
-    match largest {
-        Some(need) => need,
-        None => need_while(
-            table,
-            method,
-            i,
-            &row,
-            &Access::NONE,
-            Response::Within(Ticks(0)),
-        ),
+    Need {
+        method,
+        time,
+        blocker: table.accesses[at],
     }
 }
 
