@@ -31,10 +31,10 @@ UNTRIED = {  # the first words of commands that are shown and not run, and why
     "rt": "it proves",
     "tools/library.sh": "a step of the gate",
 }
-ELSEWHERE = {  # names that they have of the language, the kit and Debian
+ELSEWHERE = {  # names that they have of the language, the kit, Debian and a report
     "Bool", "Nat", "Perm", "Read", "Result", "Write", "abbrev", "apt-get", "bool", "contents", "crpd-report", "ensures", "errno", "f-2", "f-in-loop-j",
     "flat_map", "librsvg2-bin", "list_all", "nat_le", "nat_lt", "remaining", "requires", "result", "slice_index", "slice_index_or", "unfoldable",
-    "unfolding", "while",
+    "unfolding", "while", "yes",
 }
 
 FENCE = re.compile(r"^```(\w*)\n(.*?)^```$", re.M | re.S)

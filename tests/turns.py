@@ -27,8 +27,6 @@ REPORT, OTHERS = 100_000, 1_500_000
 BOUNDS = {
     ("coprime", "none", "report"): 3_000_000,
     ("coprime", "none", "growth"): 4_000_000,
-    # accesses that are each longer than the one before, and nearly the longest that leave a response, are each searched for
-    ("coprime", "rising", "explanation"): 9_000_000,
 }
 
 

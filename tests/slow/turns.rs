@@ -52,8 +52,10 @@ fn main() {
                 }
                 growth = growth.max(of(|| drop(crpd::growth(table, method).unwrap())));
             }
-            for task in (0..count).step_by(4) {
-                explain = explain.max(of(|| drop(crpd::explain(table, 0, task, &mut out).unwrap())));
+            for method in 0..6 {
+                for task in 0..count {
+                    explain = explain.max(of(|| drop(crpd::explain(table, method, task, &mut out).unwrap())));
+                }
             }
             for (operation, turns) in [("report", report), ("answer", answer), ("explanation", explain), ("growth", growth)] {
                 println!("{name} {accesses} {operation} {turns}");

@@ -1,6 +1,6 @@
 // What the public functions of `analysis` answer.
 use crate::carried::{weigh_access, weigh_row, Column, Terms};
-use crate::costs::{term, Charge, Hit, Single};
+use crate::costs::{cleared, term, Charge, Hit, Single};
 use crate::{blocked_row, need, one_row, respond, rows, Method};
 use cache::units::{Reloads, Ticks};
 use search::demand::Response;
@@ -12,7 +12,7 @@ use ::{cache, table};
 mod common;
 #[path = "tables.rs"]
 mod tables;
-use common::{show, unknown, Args};
+use common::{number, show, unknown, Args};
 
 fn single(args: &mut Args) -> Single {
     [
@@ -56,6 +56,15 @@ fn hit(args: &mut Args) -> Hit {
     }
 }
 
+fn response(args: &mut Args) -> Response {
+    let word = args.word();
+    if word == "-" {
+        Response::Unschedulable
+    } else {
+        Response::Within(Ticks(number(word)))
+    }
+}
+
 fn carried(table: &Table, i: usize) -> ([Column; 32], Terms) {
     let (mut ledger, mut terms) = ([Column::NONE; 32], Terms::NONE);
     for k in 0..i + 1 {
@@ -83,6 +92,7 @@ fn answer(name: &str, args: &mut Args) -> String {
         "count_of_no_victim" => show(Charge::NoVictim(Reloads(args.number())).count()),
         "victim_with" => show(Charge::Victim(hit(args)).with(hit(args))),
         "no_victim_with" => show(Charge::NoVictim(Reloads(args.number())).with(hit(args))),
+        "cleared" => show(cleared(&tables::read(args), args.size())),
         "term" => show(term(
             &tables::read(args),
             args.size(),
@@ -135,6 +145,7 @@ fn answer(name: &str, args: &mut Args) -> String {
             let (method, i, limit) = (single(args), args.size(), args.number());
             let row = one_row::charged(&table, method, i);
             let access = access(&table, args);
+            let so_far = response(args);
             show(crate::later_under(
                 &table,
                 method,
@@ -142,8 +153,15 @@ fn answer(name: &str, args: &mut Args) -> String {
                 Ticks(limit),
                 &row,
                 &access,
-                Response::Within(Ticks(0)),
+                so_far,
             ))
+        }
+        // which of those that may block the task is left open
+        "longest" => {
+            let table = tables::read(args);
+            let i = args.size();
+            let told = crate::longest(&table, i);
+            show(told.map(|n| n < table.access_count && table.accesses[n].may_block(i)))
         }
         "weigh_row" => {
             let table = tables::read(args);

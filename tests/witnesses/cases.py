@@ -289,7 +289,7 @@ def of_search():
             found += ["hasten %d %s %d" % (own, written_terms(terms), limit), "least %d %s %d" % (own, written_terms(terms), limit)]
     answers = ["-", "0", "1", "5", "7", "250000000"]
     found += ["%s %s %s" % (it, a, b) for it in ("sooner", "later") for a in answers for b in answers]
-    for step in (1, 4, 16, 64):
+    for step in (16, 64):
         found += ["window_at %d %d %d %d" % (round, ticks, step, at) for round in (0, 1, 7) for ticks in (1, 100, 16384) for at in (0, 1, 8, 99, 100, 513, 16383, 16384, 20000)]
     return found
 
@@ -306,12 +306,12 @@ def of_analysis():
         found.append("responses %s" % said)
         for i in rows:
             found += ["respond %s %d %d" % (said, m, i) for m in METHODS] + ["explained %s %d %d" % (said, m, i) for m in METHODS]
-            found += ["evictors %s %d" % (said, i), "weigh_row %s %d" % (said, i), "term %s %d %d" % (said, i, draw.choice([0, 1, 3, 256]))]
+            found += ["evictors %s %d" % (said, i), "weigh_row %s %d" % (said, i), "longest %s %d" % (said, i), "cleared %s %d" % (said, i), "term %s %d %d" % (said, i, draw.choice([0, 1, 3, 256]))]
             found += ["charged %s %d %d" % (said, m, i) for m in (0, 1, 2, 4)]
             may = [k for k, line in enumerate([x for x in it.split("\n") if x.startswith("A")]) if blocks(it, line, i)]
             for k in [*may, accesses]:
                 found += ["%s %s %d %d %d" % (call, said, m, i, k) for m in range(5) for call in ("join", "terms")] + ["weigh_access %s %d %d" % (said, i, k)]
-                found += ["later_under %s %d %d %d %d" % (said, m, i, limit, k) for m in range(5) for limit in (10, 100, 10000)]
+                found += ["later_under %s %d %d %d %d %s" % (said, m, i, limit, k, so_far) for m in range(5) for limit, so_far in ((10, "0"), (100, "0"), (100, "9"), (10000, "0"), (10000, "30"), (10000, "-"))]
     return found
 
 
@@ -362,7 +362,8 @@ def of_report():
         for m in range(6 if n else 0):
             row = [0 if k % 6 == m and k // 6 == n - 1 else 4 for k in range(6 * n)]
             found += ["verdict_line %s" % words(row), "verdict_line %s" % words([0 if k % 6 == m and k // 6 == 0 else 4 for k in range(6 * n)]), "verdict_line %s" % words([4 if k % 6 == m else 0 for k in range(6 * n)])]
-    return [it for it in found if it != "verdict_line -"] + ["verdict_line -"]
+    found = sorted(set(found))
+    return found + [it.replace("verdict_line", "every_verdict") for it in found if it.startswith("verdict_line")]
 
 
 CHANGES = ["-", "sets=0", "sets=2", "sets=6", "sets=8", "sets=256", "sets=260", "sets=257", "brt=0", "brt=100000", "brt=100001", "count=0", "count=1", "count=2", "count=4", "count=33", "count=18446744073709551615", "access_count=1", "access_count=33", "access_count=18446744073709551615", "t0.name=65", "t0.name=0", "t0.name=97:0:98", "t0.name=98", "t1.name=99", "t2.name=97", "t0.name=97:97:97:97:97:97:97:97:97:97:97:97", "t0.work=0", "t0.work=250000000", "t0.work=250000001", "t2.work=0", "t0.period=0", "t0.period=19", "t0.period=250000001", "t0.deadline=0", "t0.deadline=21", "t0.jitter=20", "t0.jitter=21", "t1.jitter=250000001", "t0.ucb=16:0:0:0", "t0.ucb=15:0:0:0", "t0.ucb=0:1:0:0", "t0.ecb=16:0:0:0", "t0.ecb=0:0:1:0", "t1.ecb=0:0:0:1", "t3.name=97", "t3.work=1", "t3.period=1", "t3.deadline=1", "t3.jitter=1", "t3.ucb=1:0:0:0", "t3.ecb=1:0:0:0", "t3.ucb=0:0:0:1", "t31.work=1", "t31.ecb=1:0:0:0", "t31.name=0:0:0:0:0:0:0:0:0:0:0:1", "a0.task=1", "a0.ceiling=1", "a0.lasts=1", "a0.ucb=1:0:0:0", "a31.lasts=1", "a31.task=1", "a1.lasts=1", "a1.task=1", "a1.ceiling=1", "a1.ucb=1:0:0:0"]
@@ -443,8 +444,15 @@ def of_crpd(prefix="", seed=11):
     return found
 
 
+def longest():
+    """The longest text of a table whose UCBs are hex digits: 9,293 bytes."""
+    names = ["abcdefghij%02d" % k for k in range(32)]
+    tasks = ["T\t%s\t100000000\t200000000\t200000000\t100000000\t0\t%s\t%s\n" % (it, "f" * 64, "f" * 64) for it in names]
+    return head(256, 100000) + "".join(tasks) + "".join("A\t%s\t%s\t100000000\t%s\n" % (it, names[0], "f" * 64) for it in names)
+
+
 def of_laws():
-    found, draw = [], random.Random(12)
+    found, draw = ["written_then_read %s -" % it for it in (text(longest()), longest_counted(0))], random.Random(12)
     sets = SETS + [[draw.getrandbits(64) for _ in range(4)] for _ in range(3)]
     for a in sets:
         found.append("with_itself %s" % words(a))
@@ -479,6 +487,7 @@ def of_laws():
         said = written_terms(terms)
         for own in (1, 5, 40):
             found += ["demand_in_order %d %s %s %d" % (own, said, words(order), r) for r in (0, 1, 7, 40)] + ["smallest %d %s %d" % (own, said, limit) for limit in (1, own, 60, 5000)]
+    found += ["alone %d %d" % (work, r) for work in (0, 1, 7) for r in (0, 1, 9)]
     return found
 
 
@@ -512,7 +521,7 @@ def of_crpd_report():
     found = []
     for it in [text(THREE), text(THREE[:-1]), '""', '"a"', '"K\\t4\\t1\\n"'] + long_texts() + ["\"a\"*20000", text(many_tasks(32))]:
         for steps in ("-", "2", "0", "1", "2,2,2", "0,0,3", "3,0,4", "3,1", "0,1", "9,9,1", "100,0,100", "2,1"):
-            found += ["run %s %s %d" % (it, steps, room) for room in (0, 10, 2746, 9000)]
+            found += ["run %s %s %d" % (it, steps, room) for room in (0, 5, 10, 2746, 9000)]
     return found
 
 

@@ -1,4 +1,5 @@
 // What the functions of `laws` answer, as far as their promises leave one answer.
+use crate::solutions::{Alone, Demand};
 use crate::{
     any_order, any_worker, explanations, figures, growths, orders, responses, solutions, texts,
 };
@@ -8,7 +9,6 @@ use cache::sets::CacheSet;
 use cache::useful::Useful;
 use search::demand::{Response, Term};
 use table::Table;
-use table_text::readable::is_readable;
 use ::{cache, table};
 
 #[path = "common.rs"]
@@ -64,6 +64,18 @@ fn terms(args: &mut Args) -> Vec<Term> {
     }
 }
 
+// The demand of a task that waits for others.
+struct UnderTerms {
+    own: u64,
+    terms: Vec<Term>,
+}
+
+impl Demand for UnderTerms {
+    fn asked(&self, r: u64) -> u64 {
+        self.own + self.terms.iter().map(|term| term.work(r)).sum::<u64>()
+    }
+}
+
 fn answer(name: &str, args: &mut Args) -> String {
     match name {
         "either_way_round" => show(any_order::either_way_round(set(args), set(args))),
@@ -87,12 +99,7 @@ fn answer(name: &str, args: &mut Args) -> String {
         }
         "total" => {
             let table = tables::read(args);
-            let sum = explanations::total(&table, method(args), args.size());
-            // nothing is promised of the sum where the need is beyond
-            match sum.need.time {
-                Response::Within(_) => show(sum),
-                Response::Unschedulable => show(sum.need),
-            }
+            show(explanations::total(&table, method(args), args.size()))
         }
         "need_and_response" => {
             let table = tables::read(args);
@@ -145,11 +152,19 @@ fn answer(name: &str, args: &mut Args) -> String {
             let table = tables::read(args);
             show(responses::combined(&table, args.size()))
         }
-        "smallest" => show(solutions::smallest(
-            Ticks(args.number()),
-            &terms(args),
-            Ticks(args.number()),
-        )),
+        "alone" => show(
+            Alone {
+                work: Ticks(args.number()),
+            }
+            .asked(args.number()),
+        ),
+        "smallest" => {
+            let demand = UnderTerms {
+                own: args.number(),
+                terms: terms(args),
+            };
+            show(solutions::smallest(&demand, Ticks(args.number())))
+        }
         "of_two_texts" => show(texts::of_two_texts(
             &args.bytes(),
             &args.bytes(),
@@ -158,20 +173,13 @@ fn answer(name: &str, args: &mut Args) -> String {
         )),
         "growth_left" => show(texts::growth_left(&args.bytes(), args.number())),
         "read_then_written" => {
-            let text = args.bytes();
-            if Table::empty().read(&text).is_err() {
-                return "nothing is promised of a text that is refused".to_string();
-            }
-            let mut out = [b'~'; 9293];
-            let read = texts::read_then_written(&text, &mut out);
+            let mut out = [b'~'; 16384];
+            let read = texts::read_then_written(&args.bytes(), &mut out);
             let end = out.iter().rposition(|b| *b != b'~').map_or(0, |k| k + 1);
             filled(read, &out[..end])
         }
         "written_then_read" => {
             let table = tables::changed(args);
-            if !is_readable(&table) {
-                return "nothing is promised of a table without a text".to_string();
-            }
             let mut again = Table::empty();
             let read = texts::written_then_read(&table, &mut again);
             format!("{:?} {}", read, tables::shown(&again))

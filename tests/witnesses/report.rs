@@ -1,5 +1,5 @@
 // What the public functions of `report` answer.
-use crate::verdicts::write_verdict_line;
+use crate::verdicts::{every_verdict, write_verdict_line};
 use crate::{explanation, report};
 use analysis::costs::Single;
 use analysis::{rows, Method};
@@ -12,7 +12,25 @@ mod common;
 #[path = "tables.rs"]
 mod tables;
 use cache::units::Ticks;
-use common::{filled, text, unknown, Args};
+use common::{filled, show, text, unknown, Args};
+
+// Rows of six responses each, 0 where there is none.
+fn rows_of(args: &mut Args) -> Vec<Row> {
+    let told = |n: u64| {
+        if n == 0 {
+            Response::Unschedulable
+        } else {
+            Response::Within(Ticks(n))
+        }
+    };
+    let numbers = args.list();
+    numbers
+        .chunks(6)
+        .map(|row| Row {
+            responses: std::array::from_fn(|m| told(row[m])),
+        })
+        .collect()
+}
 
 fn answer(name: &str, args: &mut Args) -> String {
     match name {
@@ -38,24 +56,10 @@ fn answer(name: &str, args: &mut Args) -> String {
             let (i, mut out) = (args.size(), args.buffer());
             filled(explanation::explain(&table, method, i, &mut out), &out)
         }
-        // rows of six responses each, 0 where there is none
+        "every_verdict" => show(every_verdict(&rows_of(args))),
         "verdict_line" => {
-            let numbers = args.list();
-            let told = |n: u64| {
-                if n == 0 {
-                    Response::Unschedulable
-                } else {
-                    Response::Within(Ticks(n))
-                }
-            };
-            let rows: Vec<Row> = numbers
-                .chunks(6)
-                .map(|row| Row {
-                    responses: std::array::from_fn(|m| told(row[m])),
-                })
-                .collect();
             let mut draft = Draft::new();
-            write_verdict_line(&mut draft, &rows);
+            write_verdict_line(&mut draft, &rows_of(args));
             text(draft.text())
         }
         _ => unknown(name),
