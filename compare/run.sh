@@ -93,5 +93,12 @@ done
 for error in 74 75 76 77 78 79 80 81; do
     find_error 'sums and unions in any order' "$error"
 done
+for error in 98 99 100 102; do
+    find_error 'tables with a task line more' "$error"
+done
+find_error 'methods beside each other' 101
+for error in 103 104; do
+    find_error 'tables with lines changed that do not matter' "$error"
+done
 printf '%s passed, %s failed\n' "$passed" "$failed"
 [ "$failed" = 0 ]

@@ -26,7 +26,9 @@
 #define CRPD_TABLE_MOST 16384
 
 /* The response, in ticks, of the task at a position (from 0) under a method (0 to 5), or 0 where the
- * task is unschedulable: the largest over the accesses that may block it, if there are any. */
+ * task is unschedulable: the largest over the accesses that may block it, if there are any. Method 3 is
+ * never larger than 1, 4 never larger than 2, and 5 never larger than 3 and 4, where unschedulable counts as
+ * larger than any number. */
 uint64_t crpd_answer(const uint8_t *text, size_t text_len, uint64_t method, uint64_t position);
 
 /* The length of the report, which then stands at the start of out. What follows it in out, and all of

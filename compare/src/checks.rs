@@ -1,6 +1,7 @@
 //! Asking the model and the library the same, and telling where they differ.
 
 pub mod growths;
+pub mod laws;
 pub mod pool;
 pub mod sets;
 pub mod sums;

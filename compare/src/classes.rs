@@ -5,6 +5,7 @@ mod accesses;
 mod counted;
 mod explained;
 mod growths;
+mod laws;
 mod pool;
 mod reasons;
 mod spelled;
@@ -136,6 +137,7 @@ impl Classes {
             values::all(),
             growths::all(),
             pool::all(),
+            laws::all(),
         ];
         for name in further.iter().flatten() {
             classes.require(name);
@@ -203,6 +205,27 @@ impl Classes {
             names.extend(pool::reached_in_step(calls, logs));
         }
         for name in names {
+            self.reach(&name);
+        }
+    }
+
+    /// By the answers of a text by all methods.
+    pub fn reach_beside(&mut self, rows: &[Row]) {
+        for name in laws::reached_by_rows(rows) {
+            self.reach(&name);
+        }
+    }
+
+    /// By a table, and the same with a line more at a position.
+    pub fn reach_line(&mut self, before: &Outcome, after: &Outcome, place: usize) {
+        for name in laws::reached_by_line(before, after, place) {
+            self.reach(&name);
+        }
+    }
+
+    /// By a table, and the same with lines changed that do not matter to the task at `i`.
+    pub fn reach_change(&mut self, before: &Outcome, after: &Outcome, i: usize) {
+        for name in laws::reached_by_change(before, after, i) {
             self.reach(&name);
         }
     }

@@ -1,13 +1,16 @@
 //! Made-up tables that are valid.
 
 mod accesses;
+mod adding;
 mod builds;
 mod families;
 mod growing;
+mod keeping;
 mod measuring;
 mod published;
 
 pub use accesses::ACCESSES_MOST;
+pub use adding::{nearly_full, with_line};
 pub use builds::builds;
 pub use families::{
     crossed, edges, full, largest, loaded, near_end, near_limit, shared, small, unions, Family,
@@ -16,6 +19,7 @@ pub use families::{
 pub use growing::{
     by_either_union, finely_in_time, just_in_time, longest_counted, nearly_refused, nearly_too_long,
 };
+pub use keeping::kept;
 pub use measuring::{
     any_cache_sets, any_counts, measuring_counted, measuring_evicting, measuring_useful,
 };

@@ -6,6 +6,7 @@ use crate::checks::{Compared, Difference};
 const TOLD_MOST: u64 = 1;
 
 /// One of the counted groups of comparisons.
+#[derive(Clone)]
 pub struct Group {
     pub name: &'static str,
     pub texts: u64,

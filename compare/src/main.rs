@@ -15,6 +15,8 @@ use crpd_compare::{damage, figures, library, values};
 
 #[path = "main/growths.rs"]
 mod growths;
+#[path = "main/laws.rs"]
+mod laws;
 #[path = "main/pool.rs"]
 mod pool;
 #[path = "main/sums.rs"]
@@ -40,6 +42,7 @@ fn run(words: &[String]) -> i32 {
         options,
         random: Random::new(SEED),
         classes: Classes::new(),
+        order: Group::new("methods beside each other"),
         passed: 0,
         failed: 0,
     };
@@ -52,6 +55,8 @@ struct Comparison {
     options: Options,
     random: Random,
     classes: Classes,
+    /// Of every text that is answered.
+    order: Group,
     passed: u64,
     failed: u64,
 }
@@ -101,7 +106,12 @@ impl Comparison {
                 }
                 Part::Summing => self.sums(&valid),
                 Part::Working => self.workers(&valid, &[]),
+                Part::Relating => {
+                    self.lines_more();
+                    self.lines_changed();
+                }
             }
+            self.close(self.order.clone());
             return;
         }
         self.figures();
@@ -125,6 +135,9 @@ impl Comparison {
         self.laws_of_sets();
         self.workers(&valid, &refused);
         self.pool(&valid, &refused);
+        self.lines_more();
+        self.lines_changed();
+        self.close(self.order.clone());
         if self.options.percent == 100 {
             self.class_counts();
         }
@@ -184,6 +197,7 @@ impl Comparison {
         for text in valid.all() {
             let outcome = self.compare(&mut group, checks::whole, text);
             self.reach_valid(text, &outcome);
+            self.beside(text, &outcome);
         }
         self.close(group);
         valid
@@ -243,8 +257,9 @@ impl Comparison {
         }
         for text in &texts {
             let outcome = self.compare(&mut group, checks::whole, text);
-            if let Some(refusal) = outcome.refusal() {
-                self.classes.reach_refusal(refusal.number);
+            match outcome.refusal() {
+                Some(refusal) => self.classes.reach_refusal(refusal.number),
+                None => self.beside(text, &outcome),
             }
         }
         self.close(group);

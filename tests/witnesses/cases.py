@@ -451,6 +451,12 @@ def longest():
     return head(256, 100000) + "".join(tasks) + "".join("A\t%s\t%s\t100000000\t%s\n" % (it, names[0], "f" * 64) for it in names)
 
 
+def with_task(it, p, line):
+    """The text with a task line put in below line 1 and p others."""
+    lines = it.splitlines(keepends=True)
+    return "".join(lines[: p + 1] + [line] + lines[p + 1 :])
+
+
 def of_laws():
     found, draw = ["written_then_read %s -" % it for it in (text(longest()), longest_counted(0))], random.Random(12)
     sets = SETS + [[draw.getrandbits(64) for _ in range(4)] for _ in range(3)]
@@ -460,7 +466,7 @@ def of_laws():
             found.append("either_way_round %s %s" % (words(a), words(b)))
             for c in sets[::2]:
                 found += ["%s %s %s %s" % (it, words(a), words(b), words(c)) for it in ("either_grouping", "shared_sizes")]
-    every = tables(13, 60) + [(THREE, 3), (THREE + "A\tc\ta\t5\t3\n", 3)]
+    every, added = tables(13, 60) + [(THREE, 3), (THREE + "A\tc\ta\t5\t3\n", 3)], random.Random(16)
     for k, (it, n) in enumerate(every):
         said = text(it)
         for i in range(n):
@@ -475,6 +481,14 @@ def of_laws():
         found += ["reported_twice %s %d %d" % (said, a, b) for a, b in ((2746, 2746), (0, 2746), (2746, 0), (2000, 2746))]
         found += ["answered_twice %s %d %d" % (said, m, p) for m in (0, 5, 6) for p in (0, 1, 2, 40)]
         found += ["read_then_written %s" % said]
+        sets = int(it.split("\t")[1])
+        for p in range(n + 1) if k % 3 == 0 or n == 3 else ():
+            more = with_task(it, p, task(0, 1 + p % 2, 40 + p, 30 + p, p % 3, 0, mask(added, sets), mask(added, sets), sets, called="new"))
+            found += ["added_answers %s %s %d %d %d" % (said, text(more), p, m, i) for m in (0, 3, 4, 6) for i in range(n + 1)]
+            found.append("put_in %s %d %s %d" % (said, p, text(more), p))
+            found += ["two_needs %s %s %d %d" % (said, text(more), m, i) for m in (1, 2, 5) for i in range(n)]
+            found += ["two_explanations %s %s %d %d %d %d" % (said, text(more), m, i, a, b) for m, a, b in ((2, 1348, 1348), (4, 0, 1348), (6, 9, 9)) for i in range(n + 1)]
+        found += ["%s %s %d" % (call, said, i) for call in ("under_all", "are_in_order") for i in range(n)]
         other = text(every[(k + 1) % len(every)][0])
         found += ["of_two_texts %s %s %d %d" % (said, other, m, p) for m in (0, 2, 3, 4, 5, 6) for p in (0, 1, 2, 40)]
     for it in texts()[::17] + ["", "a"]:

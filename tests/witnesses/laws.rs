@@ -1,7 +1,8 @@
 // What the functions of `laws` answer, as far as their promises leave one answer.
 use crate::solutions::{Alone, Demand};
 use crate::{
-    any_order, any_worker, explanations, figures, growths, orders, responses, solutions, texts,
+    added, any_order, any_worker, dominance, explanations, figures, growths, orders, responses,
+    solutions, texts,
 };
 use analysis::costs::Single;
 use analysis::Method;
@@ -78,6 +79,49 @@ impl Demand for UnderTerms {
 
 fn answer(name: &str, args: &mut Args) -> String {
     match name {
+        "added_answers" => show(added::answers(
+            &args.bytes(),
+            &args.bytes(),
+            args.number(),
+            args.number(),
+            args.number(),
+        )),
+        "put_in" => {
+            let (table, added) = (tables::read(args), args.size());
+            let task = tables::read(args).tasks[args.size()];
+            tables::shown(&added::put_in(&table, added, task))
+        }
+        "under_all" => {
+            let table = tables::read(args);
+            show(dominance::under_all(&table, args.size()))
+        }
+        "are_in_order" => {
+            let table = tables::read(args);
+            show(dominance::are_in_order(&table, args.size()))
+        }
+        "two_needs" => {
+            let (first, second) = (tables::read(args), tables::read(args));
+            show(explanations::two_needs(
+                &first,
+                &second,
+                method(args),
+                args.size(),
+            ))
+        }
+        "two_explanations" => {
+            let (first, second) = (args.bytes(), args.bytes());
+            let (method, position) = (args.number(), args.number());
+            let (mut own, mut others) = (args.buffer(), args.buffer());
+            let told = explanations::two_explanations(
+                &first,
+                &second,
+                method,
+                position,
+                &mut own,
+                &mut others,
+            );
+            format!("{} {}", filled(told, &own), common::text(&others))
+        }
         "either_way_round" => show(any_order::either_way_round(set(args), set(args))),
         "either_grouping" => show(any_order::either_grouping(set(args), set(args), set(args))),
         "with_itself" => show(any_order::with_itself(set(args))),

@@ -58,7 +58,9 @@ fn told(answer: u64) -> Result<u32, Refusal> {
 }
 
 /// The response, in ticks, of the task at a position (from 0) under a method (0 to 5), or `None` where
-/// the task is unschedulable: the largest over the accesses that may block it, if there are any.
+/// the task is unschedulable: the largest over the accesses that may block it, if there are any. Method 3
+/// is never larger than 1, 4 never larger than 2, and 5 never larger than 3 and 4, where `None` counts as
+/// larger than any number.
 pub fn answer(text: &[u8], method: u64, position: u64) -> Result<Option<u32>, Refusal> {
     let answer = told(unsafe { crpd_answer(text.as_ptr(), text.len(), method, position) })?;
     Ok(Some(answer).filter(|&ticks| ticks != 0))

@@ -42,7 +42,8 @@ pub fn share(random: &mut Random, table: &mut Table, count: u64) {
     }
 }
 
-fn any(random: &mut Random, table: &Table) -> Access {
+/// An access of any task, with any ceiling.
+pub fn any(random: &mut Random, table: &Table) -> Access {
     let last = table.tasks.len() - 1;
     let any = random.below(last + 1);
     let task = *random.pick(&[last, any]);

@@ -25,6 +25,9 @@ impl Comparison {
             (70, &generate::by_either_union),
             (130, &generate::nearly_too_long),
         ]);
+        for text in &own {
+            self.beside(text, &Outcome::of(text, self.options.error));
+        }
         let share = |texts| self.options.share(texts) as usize;
         let common = spread(&valid.common, share(200)).chain(spread(&valid.extreme, share(60)));
         let texts: Vec<&Vec<u8>> = own

@@ -70,7 +70,11 @@ impl Comparison {
     fn builds(&mut self, tables: u64) -> Vec<Vec<u8>> {
         let tables = 0..self.options.share(tables);
         let builds = tables.flat_map(|_| generate::builds(&mut self.random));
-        builds.map(|table| table.text()).collect()
+        let texts: Vec<Vec<u8>> = builds.map(|table| table.text()).collect();
+        for text in &texts {
+            self.beside(text, &Outcome::of(text, self.options.error));
+        }
+        texts
     }
 
     /// The calls of some texts are made alone, and then by several workers.

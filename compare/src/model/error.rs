@@ -193,6 +193,20 @@ pub enum Error {
     OverlooksHighCounts,
     /// 97: 17 tells the last line with a B above 0.
     TellsLastBlocked,
+    /// 98: a line more changes the answers of the tasks above it as well.
+    ChangesAbove,
+    /// 99: with a line more every task stands where it stood.
+    ForgetsToMove,
+    /// 100: no answer counts as smaller than any number.
+    TakesNoneForLeast,
+    /// 101: method 4 is held against method 1.
+    HoldsFourAgainstOne,
+    /// 102: the task just below a line more keeps its answer.
+    TakesNextForAbove,
+    /// 103: a task's answer does not depend on its own line.
+    LeavesOwnLineOut,
+    /// 104: a task's answer does not depend on accesses of which it is the ceiling itself.
+    LeavesOwnCeilingOut,
 }
 
 /// What of the model an error is built into.
@@ -207,11 +221,13 @@ pub enum Part {
     Summing,
     /// Having one table after another.
     Working,
+    /// Saying what holds of two answers.
+    Relating,
 }
 
-use Part::{Answering, Explaining, Growing, Reading, Summing, Working, Writing};
+use Part::{Answering, Explaining, Growing, Reading, Relating, Summing, Working, Writing};
 
-const ERRORS: [(&str, Error, Part); 98] = [
+const ERRORS: [(&str, Error, Part); 105] = [
     ("1", Error::StartsFromGuess, Answering),
     ("2", Error::JudgesAtLimit, Answering),
     ("3", Error::CombinesPerPair, Answering),
@@ -310,6 +326,13 @@ const ERRORS: [(&str, Error, Part); 98] = [
     ("95", Error::WritesCountsFromLowestSet, Writing),
     ("96", Error::OverlooksHighCounts, Writing),
     ("97", Error::TellsLastBlocked, Reading),
+    ("98", Error::ChangesAbove, Relating),
+    ("99", Error::ForgetsToMove, Relating),
+    ("100", Error::TakesNoneForLeast, Relating),
+    ("101", Error::HoldsFourAgainstOne, Relating),
+    ("102", Error::TakesNextForAbove, Relating),
+    ("103", Error::LeavesOwnLineOut, Relating),
+    ("104", Error::LeavesOwnCeilingOut, Relating),
 ];
 
 impl Error {

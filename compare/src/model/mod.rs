@@ -12,6 +12,7 @@ mod costs;
 mod error;
 mod explain;
 mod growth;
+pub mod laws;
 mod order;
 mod read;
 mod report;

@@ -2,7 +2,7 @@
 -- the whole equation of a task.
 use Rattle.std.proofs.Common.{ℕ, ◌+◌, max, ◌<◌, zero-le, add_comm, add_assoc, arith, ◌≡◌, refl, sym, ap, ap₂, ◌∙◌, List, map}
 use Rattle.std.proofs.Math.Path.{fun_ext}
-use Rattle.cache.specs.Sets.{Set, ∅, ◌∪◌, ◌∩◌, size}
+use Rattle.cache.specs.Sets.{Set, ∅, ◌∪◌}
 use Rattle.cache.proofs.SetLaws.{union_comm, union_assoc, union_self}
 use Rattle.cache.specs.Counts.{Counts, nothing, ◌⊕◌, capped, ◌on◌, total}
 use Rattle.cache.proofs.CountLaws.{on_both, total-split, add_comm as counts_comm, add_assoc as counts_assoc}

@@ -1,5 +1,5 @@
 -- The lines of an explanation add up to the need, and the need is the response where it is within the limit.
-use Rattle.std.proofs.Common.{ℕ, ◌≤◌, ◌<◌, List, ◌≡◌, sym, ap, ◌∙◌, arith}
+use Rattle.std.proofs.Common.{ℕ, ◌≤◌, ◌<◌, List, ◌≡◌, sym, ap, subst, ◌∙◌, arith, Result}
 use Rattle.cache.specs.declared.units.Ticks.{Ticks}
 use Rattle.search.specs.declared.demand.Response.TheVariants.{Within, Unschedulable}
 use Rattle.search.specs.declared.demand.Term.{Term}
@@ -23,7 +23,18 @@ use Rattle.report.proofs.Ranges.{needed}
 use Rattle.report.proofs.Truth.{explanation-adds-up}
 use Rattle.laws.specs.declared.explanations.Sum.{Sum}
 use Rattle.laws.specs.declared.explanations.NeedAndResponse.{NeedAndResponse}
-use Rattle.laws.specs.Explanations.{adds_at, sum_of, AddsUp, IsNeededAsAnswered}
+use Rattle.laws.specs.declared.explanations.TwoNeeds.{TwoNeeds}
+use Rattle.laws.specs.declared.explanations.TwoExplanations.{TwoExplanations}
+use Rattle.laws.specs.Calls.{CallsAgree, SameRoom}
+use Rattle.laws.specs.Texts.{ReadsAs}
+use Rattle.laws.specs.Explanations.{adds_at, sum_of, AddsUp, IsNeededAsAnswered, NeededAlike, ExplainedAlike}
+use Rattle.laws.proofs.AnyWorker.{written-calls-agree}
+use Rattle.laws.proofs.AddedTables.{added-same}
+use Rattle.laws.proofs.SameExplained.{unowned-needs}
+use Rattle.laws.proofs.TwoTexts.{explanations-same, added-names}
+use Rattle.analysis.specs.Same.{SameNamesDownTo}
+use Rattle.table.specs.declared.refusals.Refusal.{Refusal}
+use Rattle.crpd.specs.Operations.{TextWritten, TextExplained}
 
 -- ---- one line
 
@@ -73,3 +84,28 @@ module _ (table : Table) (accepted : AcceptedTable table) (i : ℕ) (held : i < 
     needed = λ R q. rw e (response-needed table accepted i held m R (sym f ∙ q));
     answered = λ R q h. f ∙ need-responds table accepted i held m R (rw e at q) h;
   }
+
+-- ---- of two tables, and of two texts
+
+pub needed-alike : (first second : Table) (m : Method) (i : ℕ) (r : TwoNeeds) → AcceptedTable first → AcceptedTable second → r.first ≡ need_of first m i → r.second ≡ need_of second m i
+    → NeededAlike first second m i r
+needed-alike first second m i r p q f s = record {
+  first_is = f;
+  second_is = s;
+  same = λ h. rw (f, s) (unowned-needs i first second h m);
+  above = λ n t h l. rw (f, s) (unowned-needs i first second (added-same n t first second h p q i l).same m);
+}
+
+pub explained-alike : (first second : List ℕ) (m i : ℕ) (before after before' after' : List ℕ) (r : TwoExplanations) → TextExplained first m i before r.first after
+    → TextExplained second m i before' r.second after' → ExplainedAlike first second m i before after before' after' r
+explained-alike first second m i before after before' after' r f s = record {
+  first_is = f;
+  second_is = s;
+  same = λ a b p q h room. agree a b p q h room;
+  above = λ n a b p q added l room. agree a b p q (added-names first second a b p q m i n added l) room;
+}
+  where
+    agree : (a b : Table) → ReadsAs first a → ReadsAs second b → SameNamesDownTo i a b → SameRoom 1348 before before' → CallsAgree r.first r.second before after before' after'
+    agree a b p q h room =
+        written-calls-agree f
+        (subst (λ (made : Result (List ℕ) Refusal). TextWritten 1348 made before' r.second after') (sym (explanations-same first second a b p q m i h)) s) room

@@ -12,3 +12,9 @@ pub mod OrderLaws
 pub mod ResponseLaws
 pub mod SolutionLaws
 pub mod TextLaws
+pub mod AddedTables
+pub mod AddedTexts
+pub mod PutLaws
+pub mod SameExplained
+pub mod TwoTexts
+pub mod DominanceLaws

@@ -1,24 +1,22 @@
 -- Tables that are no harder, and positions in any order.
-use Rattle.std.proofs.Common.{ℕ, zero, suc, ◌+◌, ◌-◌, ◌≤◌, ◌<◌, List, [], ◌∷◌, ◌++◌, length, take, get_or, ◌≡◌, refl, ap, ◌∙◌, arith, eq-eqb, zero-le}
+use Rattle.std.proofs.Common.{ℕ, zero, suc, ◌+◌, ◌≤◌, ◌<◌, List, [], ◌∷◌, ◌++◌, length, take, get_or, ◌≡◌, refl, ap, ◌∙◌, arith, eq-eqb}
 use Rattle.std.proofs.lemmas.List.{take_more}
 use Rattle.std.proofs.Math.Decide.{dec_lt}
 use Rattle.search.specs.declared.demand.Response.{Response}
 use Rattle.search.specs.declared.demand.Response.TheVariants.{Within, Unschedulable}
 use Rattle.search.specs.declared.demand.Term.{Term}
-use Rattle.search.specs.Positions.{hp, fold_by}
+use Rattle.search.specs.Positions.{fold_by}
 use Rattle.search.specs.Demand.{work_of}
 use Rattle.search.specs.Least.{NoLater}
-use Rattle.search.proofs.PositionLaws.{run_long}
 use Rattle.table.specs.declared.Table.{Table}
 use Rattle.table.specs.Accepted.{AcceptedTable}
 use Rattle.analysis.specs.declared.Method.{Method}
 use Rattle.analysis.specs.Analysis.{response_of}
 use Rattle.analysis.proofs.SameLaws.{response-same}
 use Rattle.analysis.proofs.Orders.{response-place, harder-no-sooner}
+use Rattle.laws.proofs.AddedTables.{added-no-sooner, added-same}
 use Rattle.laws.specs.Permutations.{times_in, EachOnce}
 use Rattle.laws.specs.Equation.{demand_over}
-use Rattle.laws.proofs.PermutationLaws.{once-permutation, fold-any-order}
-use Rattle.laws.proofs.AnyOrder.{sum-unordered}
 use Rattle.laws.specs.declared.orders.TwoResponses.{TwoResponses}
 use Rattle.laws.specs.Orders.{RespondsBy, EasierRespondsFirst}
 
@@ -38,6 +36,8 @@ easier-first first second i k m r p q held f s = record {
   same = λ h e. rw (f, s, ← e) (response-same i first second h m);
   harder = λ h e. responds-by r.first r.second (rw (f, s, ← e) (harder-no-sooner first second h p q m i held));
   harder_by = λ place h e. responds-by r.first r.second (rw (f, s, ← e) (response-place place first second i h p q held m));
+  added = λ n t h e. rw (f, s, ← e) (added-no-sooner n t first second h p q i held m);
+  above = λ n t h l e. rw (f, s, ← e) (response-same i first second (added-same n t first second h p q i l).same m);
 }
 
 -- ---- positions in any order

@@ -75,7 +75,7 @@ module _ (table : Table) (m : Single) (i : ℕ) where
       record { latest = p; only = λ s q. no-later-both s r (latest-first s r q p) (latest-first r s p q) }
 
 -- the sooner of two
-is-sooner : (a b : Response) → IsSooner a b (sooner a b)
+pub is-sooner : (a b : Response) → IsSooner a b (sooner a b)
 unfolding NoLater
 is-sooner (Within x) (Within y) = record { first = omega arith; second = omega arith; one = elim (dec_le x.0 y.0) [ yes l ↦ inl (least x.0 y.0 l) | no l ↦ inr (other x.0 y.0 (omega arith)) ] }
   where

@@ -22,6 +22,7 @@ use Rattle.crpd.proofs.Easier.{easier-answers}
 use Rattle.laws.specs.declared.texts.TwoAnswers.{TwoAnswers}
 use Rattle.laws.specs.Texts.{EasierTextRespondsFirst, IsTextGrowth, ComesBack, IsReadAgain}
 use Rattle.laws.proofs.GrowthLaws.{is-growth}
+use Rattle.laws.proofs.TwoTexts.{no-other, answers-same}
 
 -- ---- two texts
 
@@ -44,6 +45,7 @@ easier-text-first first second m i r f s = record {
       let w =
       easier-answers first second a b p q h m i (answered-method second m i (Within R) answered) R answered in
       (w.0, f ∙ w.1, w.2);
+  same = λ a b p q h. f ∙ answers-same first second a b p q m i h ∙ sym s;
 }
 
 -- ---- the growth
@@ -70,9 +72,6 @@ refusal-left e w = (rw e at w.answer-is, rw e at w.buffer-is)
 
 pub comes-back : (text before : List ℕ) (r : Result ℕ Refusal) (after : List ℕ) → 16384 ≤ length before → TextRewritten text before r after → ComesBack text before r after
 comes-back text before r after h w = record { accepted = λ table e. fitting-made (rw e) h w; refused = λ refusal e. let left = refusal-left (rw e) w in (left.0, rw e at (text-low text), left.1) }
-
-no-other : {A : Type 0} {x : A} {e : Refusal} → ◌≡◌ {A = Result A Refusal} (Ok x) (Err e) → ⊥
-no-other e = let z : ◌≡◌ {A = ℕ} 0 1 = cc in omega arith
 
 -- what reading says of the table that is read
 read-back : (result : Result (Unit {0}) Refusal) (read table : Table) → then_read result (λ _. Ok read) ≡ Ok table → (result ≡ Ok tt) × (read ≡ table)

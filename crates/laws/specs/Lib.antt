@@ -11,3 +11,5 @@ pub mod Orders
 pub mod Responses
 pub mod Solutions
 pub mod Texts
+pub mod Added
+pub mod Dominance

@@ -8,6 +8,7 @@ use Rattle.table.specs.Numbers.{reason_number, untold}
 use Rattle.table.specs.declared.Table.{Table}
 use Rattle.table.specs.Reading.{read_text}
 use Rattle.analysis.specs.Harder.{Harder}
+use Rattle.analysis.specs.Same.{SameDownTo}
 use Rattle.table_text.specs.Readable.{Readable}
 use Rattle.crpd.specs.Operations.{numbered, answer_to}
 use Rattle.laws.specs.Growths.{IsGrowth}
@@ -18,12 +19,13 @@ abbrev pub ReadsAs : List ℕ → Table → Type 0
 ReadsAs text table = read_text text ≡ Ok table
 
 -- the two answers; and where both texts are accepted and the second's table is harder, line by line: if the second has a response, the first has one, and it is no
--- larger
+-- larger; and where their tables are the same as far as i, they are the same
 pub record EasierTextRespondsFirst (first second : List ℕ) (m i : ℕ) (r : TwoAnswers) : Type 0 where
   pub first_is : r.first ≡ answer_to first m i
   pub second_is : r.second ≡ answer_to second m i
   pub harder : (a b : Table) → ReadsAs first a → ReadsAs second b → Harder a b
       → (R : Ticks) → r.second ≡ Ok (Within R) → (S : Ticks) × (r.first ≡ Ok (Within S)) × (S.0 ≤ R.0)
+  pub same : (a b : Table) → ReadsAs first a → ReadsAs second b → SameDownTo i a b → r.first ≡ r.second
 
 -- of an accepted text and a method that there is, the growth of its table
 abbrev pub IsTextGrowth : List ℕ → ℕ → Result ℕ Refusal → Type 0

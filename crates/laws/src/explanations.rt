@@ -2,13 +2,14 @@
 ghost use Rattle.std.specs.Prelude.{◌≡◌, ◌<◌, ◌≤◌};
 ghost use Rattle.table.specs.Accepted.{AcceptedTable};
 ghost use Rattle.report.specs.Explained.{Grounds};
-ghost use Rattle.laws.specs.Explanations.{sum_of, AddsUp, IsNeededAsAnswered};
+ghost use Rattle.laws.specs.Explanations.{sum_of, AddsUp, IsNeededAsAnswered, NeededAlike, ExplainedAlike};
 
 use analysis::need::Need;
 use analysis::{Method, blocked_row, costs, need, one_row};
 use cache::units::Ticks;
 use search::demand::Response;
 use table::Table;
+use table::refusals::Refusal;
 
 // What a task needs, and what the lines of its explanation add up to; 0 where the need is beyond.
 #[derive(Clone, Copy)]
@@ -22,6 +23,20 @@ pub struct Sum {
 pub struct NeedAndResponse {
     pub need: Need,
     pub response: Response,
+}
+
+// What a task needs in each of two tables.
+#[derive(Clone, Copy)]
+pub struct TwoNeeds {
+    pub first: Need,
+    pub second: Need,
+}
+
+// How long the explanations are that are written of two texts, or why there is none.
+#[derive(Clone, Copy)]
+pub struct TwoExplanations {
+    pub first: Result<usize, Refusal>,
+    pub second: Result<usize, Refusal>,
 }
 
 // C and the length as they are shown, and for each task above its activations in `r` ticks, each with its work and the time of its reloads.
@@ -62,5 +77,33 @@ pub fn need_and_response(table: &Table, method: Method, i: usize) -> NeedAndResp
     NeedAndResponse {
         need: need::explained(table, method, i),
         response: analysis::respond(table, method, i),
+    }
+}
+
+// What explains the answer of a method for the task at i, in each of two tables.
+pub fn two_needs(first: &Table, second: &Table, method: Method, i: usize) -> TwoNeeds
+    requires { AcceptedTable first.now × AcceptedTable second.now × (i < first.now.count) × (i < second.now.count) }
+    ensures { NeededAlike first.now second.now method i result }
+{
+    TwoNeeds {
+        first: need::explained(first, method, i),
+        second: need::explained(second, method, i),
+    }
+}
+
+// The explanations of what a method answers for the task at a position, of each of two texts, each at the start of a buffer of its own.
+pub fn two_explanations(
+    first: &[u8],
+    second: &[u8],
+    method: u64,
+    position: u64,
+    own: &mut [u8],
+    others: &mut [u8],
+) -> TwoExplanations
+    ensures { ExplainedAlike first.now second.now method position own.old own.new others.old others.new result }
+{
+    TwoExplanations {
+        first: crpd::explain(first, method, position, own),
+        second: crpd::explain(second, method, position, others),
     }
 }

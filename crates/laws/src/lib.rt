@@ -2,10 +2,14 @@
 // crates below. A law that holds of a function's answer on its own stands beside the equation that says which answer that is.
 #![tactic(auto)]
 
+// With a task more no other is answered sooner.
+pub mod added;
 // Any order of the tasks gives the same response.
 pub mod any_order;
 // Any worker gets the same answer.
 pub mod any_worker;
+// Which of the methods never answers later than which.
+pub mod dominance;
 pub mod explanations;
 pub mod figures;
 pub mod growths;

@@ -1,6 +1,6 @@
 -- `any_order::shared_sizes` meets its contract: the law of sizes.
-use Rattle.std.proofs.Common.{◌≡◌, ap, arith}
-use Rattle.cache.specs.Sets.{Set, ◌∪◌, ◌∩◌}
+use Rattle.std.proofs.Common.{◌≡◌, arith}
+use Rattle.cache.specs.Sets.{◌∪◌, ◌∩◌}
 use Rattle.cache.specs.Words.{members}
 use Rattle.cache.specs.Counts.{◌on◌, total}
 use Rattle.cache.specs.Levels.{counts}

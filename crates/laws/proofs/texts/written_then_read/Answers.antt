@@ -1,6 +1,6 @@
 -- `laws::texts::written_then_read` meets its contract.
 use Rattle.std.proofs.Common.{arith}
-use Rattle.laws.proofs.TextLaws.{written-again, refused-again}
+use Rattle.laws.proofs.TextLaws.{written-again}
 use Rattle.laws.proofs.texts.written_then_read.Goals as goal
 
 pub returns : goal.returns
