@@ -7,7 +7,7 @@ here=$(cd "$(dirname "$0")" && pwd -P)
 root=$(dirname "$here")
 cd "$root"
 mkdir -p target
-for library in crpd_c parts values; do
+for library in crpd_c bench_parts test_values; do
     name=$library
     [ "$library" != crpd_c ] || name=crpd
     tools/static.sh "$library" "$name" >"target/$name.log" 2>&1 || { cat "target/$name.log" >&2; exit 1; }

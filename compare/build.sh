@@ -9,8 +9,8 @@ usage() {
 usage: build.sh [--library FILE] [--values FILE] [--parts FILE] [--stand-in] [--out FOLDER]
 
   --library FILE   the proved library (default: target/staticlib/libcrpd.a of the repository)
-  --values FILE    its writing of any table value (default: target/staticlib/libvalues.a)
-  --parts FILE     its parts, for the benchmark (default: target/staticlib/libparts.a, if it is there)
+  --values FILE    its writing of any table value (default: target/staticlib/libtest_values.a)
+  --parts FILE     its parts, for the benchmark (default: target/staticlib/libbench_parts.a, if it is there)
   --stand-in       link no library: the plain version stands in for it
   --out FOLDER     where the programs go (default: target/compare of the repository)
 
@@ -22,8 +22,8 @@ here=$(cd "$(dirname "$0")" && pwd -P)
 root=$(dirname "$here")
 . "$root/tools/x86-64.sh"
 library=$root/target/staticlib/libcrpd.a
-values=$root/target/staticlib/libvalues.a
-parts=$root/target/staticlib/libparts.a
+values=$root/target/staticlib/libtest_values.a
+parts=$root/target/staticlib/libbench_parts.a
 stand_in=no
 out=$root/target/compare
 
@@ -59,10 +59,10 @@ if [ "$stand_in" = no ]; then
     [ -r "$values" ] || x86_die "there is no $values (see --values and --stand-in)"
     mkdir -p "$out/library"
     cp "$library" "$out/library/libcrpd.a"
-    cp "$values" "$out/library/libvalues.a"
+    cp "$values" "$out/library/libtest_values.a"
     set -- "$@" -L "native=$out/library" --cfg 'feature="library"' --cfg 'feature="values"'
     if [ -r "$parts" ]; then
-        cp "$parts" "$out/library/libparts.a"
+        cp "$parts" "$out/library/libbench_parts.a"
         set -- "$@" --cfg 'feature="parts"'
     fi
 fi

@@ -56,7 +56,7 @@ def lines():
 
 
 def main():
-    crates = [it for it in witnesses.plain_rust.crates(ROOT) if it != "vectors"]
+    crates = [it for it in witnesses.plain_rust.crates(ROOT) if it != "test_vectors"]
     known, found, edits = lines(), {}, {}
     for crate in crates:
         cases, every = witnesses.witnesses(crate), functions(crate)

@@ -106,17 +106,17 @@ class Programs:
         calls = "".join("        Some(%r) => %s::calls::main(),\n" % (name, name) for name in variants).replace("'", '"')
         mods = "".join("mod %s;\n" % name for name in variants)
         files = {"main.rs": "mod common;\n%s\nfn main() {\n    match std::env::args().nth(1).as_deref() {\n%s        _ => panic!(),\n    }\n}\n" % (mods, calls)}
-        for part in ("common", "tables", crate):
+        parts = {}
+        for part in ("common", "tables", "terms", crate):
             with open("%s/%s.rs" % (HERE, part), encoding="utf-8") as it:
-                files[part + ".rs"] = it.read()
-        common, tables, driver = (files.pop(part + ".rs") for part in ("common", "tables", crate))
-        files["common.rs"] = common
-        driver = driver.replace('#[path = "common.rs"]\nmod common;', "use crate::common;").replace('#[path = "tables.rs"]', '#[path = "tables.rs"]')
+                parts[part + ".rs"] = it.read()
+        files["common.rs"], driver = parts.pop("common.rs"), parts.pop(crate + ".rs")
+        driver = driver.replace('#[path = "common.rs"]\nmod common;', "use crate::common;")
         for name, changes in variants.items():
             own = plain_rust.sources(ROOT, crate, changes)
             root = "lib.rs" if "lib.rs" in own else "main.rs"
             own["mod.rs"] = own.pop(root) + "\npub mod calls;\n"
-            own.update({"calls.rs": driver, "tables.rs": tables})
+            own.update({"calls.rs": driver, **parts})
             for path, text in own.items():
                 text = text.replace("#[unsafe(no_mangle)]", "").replace("crate::common", "CRATE::common")
                 files["%s/%s" % (name, path)] = re.sub(r"\bcrate(?=::| as )", "crate::" + name, text).replace("CRATE::common", "crate::common")

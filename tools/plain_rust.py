@@ -22,7 +22,7 @@ impl HostRuntime {
 """
 
 # What begins a line and is no part of the program: a clause, or a ghost item.
-GHOST = re.compile(r"^[ \t]*(requires|ensures|ghost)\b", re.M)
+GHOST = re.compile(r"^[ \t]*(?:pub )?(requires|ensures|ghost)\b", re.M)
 MODEL = re.compile(r"^impl[^\n{]*\bModel for[^{]*\{", re.M)
 TACTIC = re.compile(r"[ \t]*#!?\[tactic\([^\]]*\)\]\n?")
 DERIVE = re.compile(r"[ \t]*#\[derive\(([^)]*)\)\]\n")

@@ -101,7 +101,7 @@ mod linked {
 /// more than 16,384 bytes are reasons for 25, as everything else is that no accepted text gives.
 #[cfg(feature = "values")]
 mod values {
-    #[link(name = "values", kind = "static")]
+    #[link(name = "test_values", kind = "static")]
     extern "C" {
         fn test_write(numbers: *const u64, numbers_len: usize, out: *mut u8, out_len: usize)
             -> u64;
@@ -117,7 +117,7 @@ mod values {
 /// The parts of the proved code's work, for the benchmark to time apart.
 #[cfg(feature = "parts")]
 pub mod parts {
-    #[link(name = "parts", kind = "static")]
+    #[link(name = "bench_parts", kind = "static")]
     extern "C" {
         /// Reads the table.
         fn bench_read(text: *const u8, text_len: usize) -> u64;

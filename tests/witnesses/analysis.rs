@@ -1,41 +1,39 @@
 // What the public functions of `analysis` answer.
+use crate::blockers::{longest, Blockers, Blocking};
 use crate::carried::{weigh_access, weigh_row, Column, Terms};
 use crate::costs::{cleared, term, Charge, Hit, Single};
 use crate::{blocked_row, need, one_row, respond, rows, Method};
 use cache::units::{Reloads, Ticks};
-use search::demand::Response;
 use table::accesses::Access;
+use table::accepted::{Accepted, Pending};
 use table::Table;
-use ::{cache, table};
+use ::{cache, search, table};
 
 #[path = "common.rs"]
 mod common;
 #[path = "tables.rs"]
 mod tables;
-use common::{number, show, unknown, Args};
+#[path = "terms.rs"]
+mod terms;
+use common::{show, unknown, Args};
+use terms::response;
+
+const SINGLES: [Single; 5] = [
+    Single::None,
+    Single::EcbOnly,
+    Single::UcbOnly,
+    Single::UcbUnion,
+    Single::EcbUnion,
+];
 
 fn single(args: &mut Args) -> Single {
-    [
-        Single::None,
-        Single::EcbOnly,
-        Single::UcbOnly,
-        Single::UcbUnion,
-        Single::EcbUnion,
-    ][args.size()]
+    SINGLES[args.size()]
 }
 
 fn method(args: &mut Args) -> Method {
-    match args.number() {
+    match args.size() {
         5 => Method::Combined,
-        n => Method::Of(
-            [
-                Single::None,
-                Single::EcbOnly,
-                Single::UcbOnly,
-                Single::UcbUnion,
-                Single::EcbUnion,
-            ][n as usize],
-        ),
+        n => Method::Of(SINGLES[n]),
     }
 }
 
@@ -56,19 +54,15 @@ fn hit(args: &mut Args) -> Hit {
     }
 }
 
-fn response(args: &mut Args) -> Response {
-    let word = args.word();
-    if word == "-" {
-        Response::Unschedulable
-    } else {
-        Response::Within(Ticks(number(word)))
-    }
+// The task at a position.
+fn pending(table: &Table, i: usize) -> Pending<'_> {
+    Pending { table, i }
 }
 
 fn carried(table: &Table, i: usize) -> ([Column; 32], Terms) {
     let (mut ledger, mut terms) = ([Column::NONE; 32], Terms::NONE);
     for k in 0..i + 1 {
-        weigh_row(table, k, &mut ledger, &mut terms);
+        weigh_row(Pending { table, i: k }, &mut ledger, &mut terms);
     }
     (ledger, terms)
 }
@@ -92,28 +86,34 @@ fn answer(name: &str, args: &mut Args) -> String {
         "count_of_no_victim" => show(Charge::NoVictim(Reloads(args.number())).count()),
         "victim_with" => show(Charge::Victim(hit(args)).with(hit(args))),
         "no_victim_with" => show(Charge::NoVictim(Reloads(args.number())).with(hit(args))),
-        "cleared" => show(cleared(&tables::read(args), args.size())),
-        "term" => show(term(
-            &tables::read(args),
-            args.size(),
-            Reloads(args.number()),
-        )),
+        "cleared" => {
+            let table = tables::read(args);
+            let j = args.size();
+            show(cleared(pending(&table, j), j))
+        }
+        "term" => {
+            let table = tables::read(args);
+            let j = args.size();
+            show(term(pending(&table, j), j, Reloads(args.number())))
+        }
         "respond" => {
             let table = tables::read(args);
-            show(respond(&table, method(args), args.size()))
+            let method = method(args);
+            show(respond(pending(&table, args.size()), method))
         }
         "responses" => {
             let table = tables::read(args);
-            show(rows::responses(&table))
+            show(rows::responses(Accepted { table: &table }))
         }
         "explained" => {
             let table = tables::read(args);
-            show(need::explained(&table, method(args), args.size()))
+            let method = method(args);
+            show(need::explained(pending(&table, args.size()), method))
         }
         "evictors" => {
             let table = tables::read(args);
             let i = args.size();
-            show(&one_row::evictors(&table, i)[..i])
+            show(&one_row::evictors(pending(&table, i))[..i])
         }
         // under UCB-Union the row is gathered with the access
         "charged" => {
@@ -121,35 +121,34 @@ fn answer(name: &str, args: &mut Args) -> String {
             let (method, i) = (single(args), args.size());
             match method {
                 Single::UcbUnion => panic!("the row is left empty"),
-                _ => show(&one_row::charged(&table, method, i)[..i]),
+                _ => show(&one_row::charged(pending(&table, i), method)[..i]),
             }
         }
         "join" => {
             let table = tables::read(args);
             let (method, i) = (single(args), args.size());
-            let mut row = one_row::charged(&table, method, i);
+            let mut row = one_row::charged(pending(&table, i), method);
             let access = access(&table, args);
-            blocked_row::join(&table, method, i, &access, &mut row);
+            blocked_row::join(pending(&table, i), method, &access, &mut row);
             show(&row[..i])
         }
         "terms" => {
             let table = tables::read(args);
             let (method, i) = (single(args), args.size());
-            let mut row = one_row::charged(&table, method, i);
+            let mut row = one_row::charged(pending(&table, i), method);
             let access = access(&table, args);
-            blocked_row::join(&table, method, i, &access, &mut row);
-            show(&blocked_row::terms(&table, i, &row)[..i])
+            blocked_row::join(pending(&table, i), method, &access, &mut row);
+            show(&blocked_row::terms(pending(&table, i), &row)[..i])
         }
         "later_under" => {
             let table = tables::read(args);
             let (method, i, limit) = (single(args), args.size(), args.number());
-            let row = one_row::charged(&table, method, i);
+            let row = one_row::charged(pending(&table, i), method);
             let access = access(&table, args);
             let so_far = response(args);
             show(crate::later_under(
-                &table,
+                pending(&table, i),
                 method,
-                i,
                 Ticks(limit),
                 &row,
                 &access,
@@ -160,8 +159,20 @@ fn answer(name: &str, args: &mut Args) -> String {
         "longest" => {
             let table = tables::read(args);
             let i = args.size();
-            let told = crate::longest(&table, i);
+            let told = longest(table.accesses(), i);
             show(told.map(|n| n < table.access_count && table.accesses[n].may_block(i)))
+        }
+        "blocking" => {
+            let table = tables::read(args);
+            show(Blocking::of(table.accesses(), args.size()).collect::<Vec<_>>())
+        }
+        // which of them stands in front is left open
+        "blockers" => {
+            let table = tables::read(args);
+            let i = args.size();
+            let mut told: Vec<String> = Blockers::of(&table, i, &Access::NONE).map(show).collect();
+            told.sort();
+            show(told)
         }
         "weigh_row" => {
             let table = tables::read(args);
@@ -174,7 +185,7 @@ fn answer(name: &str, args: &mut Args) -> String {
             let i = args.size();
             let (ledger, mut terms) = carried(&table, i);
             let access = access(&table, args);
-            weigh_access(&table, i, &ledger, &access, &mut terms);
+            weigh_access(pending(&table, i), &ledger, &access, &mut terms);
             shown(&terms, i)
         }
         _ => unknown(name),

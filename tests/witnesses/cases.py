@@ -71,10 +71,11 @@ def many_tasks(n, last=""):
 
 
 def several_accesses():
-    """Tables in which several accesses may block a task, and the longest is not the worst under every method."""
+    """Tables in which several accesses may block a task, and the longest is not the worst under every method, or a shorter one before it as bad."""
     lines = head(8, 2) + "T\ta\t1\t30\t30\t0\t0\t0f\tff\nT\tb\t2\t60\t60\t0\t0\tf3\t3f\nT\tc\t2\t90\t90\t0\t0\tff\tf0\n"
     pairs = [("c\tb\t5\t00", "c\tb\t4\tff"), ("c\tb\t4\tff", "c\tb\t5\t00"), ("c\tb\t5\t00", "c\ta\t3\tff"), ("c\tb\t5\t0f", "c\tb\t5\tf0"), ("b\ta\t2\tff", "c\tb\t2\tff")]
     found = [lines + "A\t%s\nA\t%s\n" % pair for pair in pairs] + [lines + "A\tc\tb\t1\tff\nA\tc\tb\t3\t00\nA\tc\tb\t2\tcf\nA\tb\ta\t9\t01\n"]
+    found.append(head(8, 1) + "T\ta\t1\t30\t30\t0\t0\t00\tff\nT\tb\t2\t60\t60\t0\t0\t00\t3f\nT\tc\t2\t90\t90\t0\t0\t00\tf0\nA\tc\tb\t4\t01\nA\tc\tb\t5\t00\n")
     return [(it, 3) for it in found]
 
 
@@ -306,7 +307,7 @@ def of_analysis():
         found.append("responses %s" % said)
         for i in rows:
             found += ["respond %s %d %d" % (said, m, i) for m in METHODS] + ["explained %s %d %d" % (said, m, i) for m in METHODS]
-            found += ["evictors %s %d" % (said, i), "weigh_row %s %d" % (said, i), "longest %s %d" % (said, i), "cleared %s %d" % (said, i), "term %s %d %d" % (said, i, draw.choice([0, 1, 3, 256]))]
+            found += ["evictors %s %d" % (said, i), "weigh_row %s %d" % (said, i), "longest %s %d" % (said, i), "blocking %s %d" % (said, i), "blockers %s %d" % (said, i), "cleared %s %d" % (said, i), "term %s %d %d" % (said, i, draw.choice([0, 1, 3, 256]))]
             found += ["charged %s %d %d" % (said, m, i) for m in (0, 1, 2, 4)]
             may = [k for k, line in enumerate([x for x in it.split("\n") if x.startswith("A")]) if blocks(it, line, i)]
             for k in [*may, accesses]:
@@ -509,7 +510,7 @@ def of_crpd_c():
     return of_crpd("crpd_", 14)
 
 
-def of_parts():
+def of_bench_parts():
     found = []
     for it in operations(15, 30):
         said = text(it)
@@ -518,7 +519,7 @@ def of_parts():
     return found
 
 
-def of_values():
+def of_test_values():
     found = ["test_write %d - %d" % (n, size) for n in (0, 1, 2788, 2789, 2790) for size in (0, 100)]
     task = lambda k, name, times, ucb, ecb: {4 + 52 * k + place: value for place, value in enumerate([name, *[0] * 11, *times, *ucb, *[0] * 28, *ecb])}
     good = {0: 256, 1: 1, 2: 0, 3: 2, **task(0, 97, [1, 20, 20, 0], [1, 2, 3, 4], [5, 6, 7, 8]), **task(1, 98, [2, 40, 30, 1], [9, 10, 11, 12], [13, 14, 15, 16])}

@@ -1,7 +1,6 @@
 // What the public functions of `growth` answer.
 use crate::growth;
 use crate::scaling::{scale, scaled_work};
-use analysis::costs::Single;
 use analysis::Method;
 use cache::units::Ticks;
 use ::{cache, table};
@@ -12,23 +11,15 @@ mod common;
 mod tables;
 use common::{show, unknown, Args};
 
+fn method(args: &mut Args) -> Method {
+    Method::from_number(args.number()).expect("a method")
+}
+
 fn answer(name: &str, args: &mut Args) -> String {
     match name {
         "growth" => {
             let table = tables::read(args);
-            let method = match args.number() {
-                5 => Method::Combined,
-                n => Method::Of(
-                    [
-                        Single::None,
-                        Single::EcbOnly,
-                        Single::UcbOnly,
-                        Single::UcbUnion,
-                        Single::EcbUnion,
-                    ][n as usize],
-                ),
-            };
-            show(growth(&table, method))
+            show(growth(&table, method(args)))
         }
         "scaled_work" => show(scaled_work(Ticks(args.number()), args.number())),
         "scale" => {

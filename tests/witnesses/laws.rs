@@ -1,68 +1,44 @@
 // What the functions of `laws` answer, as far as their promises leave one answer.
 use crate::solutions::{Alone, Demand};
 use crate::{
-    added, any_order, any_worker, dominance, explanations, figures, growths, orders, responses,
-    solutions, texts,
+    added, any_order, any_worker, dominance, explanations, figures, orders, solutions, texts,
 };
 use analysis::costs::Single;
 use analysis::Method;
 use cache::sets::CacheSet;
 use cache::useful::Useful;
 use search::demand::{Response, Term};
+use table::accepted::{Accepted, Pending};
 use table::Table;
-use ::{cache, table};
+use ::{cache, search, table};
 
 #[path = "common.rs"]
 mod common;
 #[path = "tables.rs"]
 mod tables;
+#[path = "terms.rs"]
+mod terms;
 use cache::units::Ticks;
-use common::{filled, number, show, unknown, Args};
+use common::{filled, show, unknown, Args};
+use terms::terms;
 
 fn set(args: &mut Args) -> CacheSet {
     CacheSet::from_words(&args.list(), 0)
 }
 
-fn single(args: &mut Args) -> Single {
-    [
-        Single::None,
-        Single::EcbOnly,
-        Single::UcbOnly,
-        Single::UcbUnion,
-        Single::EcbUnion,
-    ][args.size()]
-}
-
 fn method(args: &mut Args) -> Method {
-    match args.number() {
-        5 => Method::Combined,
-        n => Method::Of(
-            [
-                Single::None,
-                Single::EcbOnly,
-                Single::UcbOnly,
-                Single::UcbUnion,
-                Single::EcbUnion,
-            ][n as usize],
-        ),
+    Method::from_number(args.number()).expect("a method")
+}
+
+fn single(args: &mut Args) -> Single {
+    match method(args) {
+        Method::Of(single) => single,
+        Method::Combined => panic!("a single method"),
     }
 }
 
-fn terms(args: &mut Args) -> Vec<Term> {
-    let word = args.word();
-    let term_of = |word: &str| {
-        let numbers: Vec<u64> = word.split('/').map(number).collect();
-        Term {
-            period: Ticks(numbers[0]),
-            jitter: Ticks(numbers[1]),
-            weight: Ticks(numbers[2]),
-        }
-    };
-    if word == "-" {
-        vec![]
-    } else {
-        word.split(',').map(term_of).collect()
-    }
+fn pending(table: &Table, i: usize) -> Pending<'_> {
+    Accepted { table }.pending(i)
 }
 
 // The demand of a task that waits for others.
@@ -93,17 +69,17 @@ fn answer(name: &str, args: &mut Args) -> String {
         }
         "under_all" => {
             let table = tables::read(args);
-            show(dominance::under_all(&table, args.size()))
+            show(dominance::under_all(pending(&table, args.size())))
         }
         "are_in_order" => {
             let table = tables::read(args);
-            show(dominance::are_in_order(&table, args.size()))
+            show(dominance::are_in_order(pending(&table, args.size())))
         }
         "two_needs" => {
             let (first, second) = (tables::read(args), tables::read(args));
             show(explanations::two_needs(
-                &first,
-                &second,
+                Accepted { table: &first },
+                Accepted { table: &second },
                 method(args),
                 args.size(),
             ))
@@ -143,32 +119,30 @@ fn answer(name: &str, args: &mut Args) -> String {
         }
         "total" => {
             let table = tables::read(args);
-            show(explanations::total(&table, method(args), args.size()))
+            let method = method(args);
+            show(explanations::total(pending(&table, args.size()), method))
         }
         "need_and_response" => {
             let table = tables::read(args);
+            let method = method(args);
             show(explanations::need_and_response(
-                &table,
-                method(args),
-                args.size(),
+                pending(&table, args.size()),
+                method,
             ))
         }
         "figure_response" => {
             let table = tables::read(args);
-            show(figures::response(&table, method(args), args.size()))
+            let method = method(args);
+            show(figures::response(pending(&table, args.size()), method))
         }
         "figure_charge" => {
             let table = tables::read(args);
+            let single = single(args);
             show(figures::charge(
-                &table,
-                single(args),
-                args.size(),
+                pending(&table, args.size()),
+                single,
                 args.size(),
             ))
-        }
-        "left" => {
-            let table = tables::read(args);
-            show(growths::left(&table, method(args)))
         }
         "in_two_tables" => {
             let (first, i, second, k) = (
@@ -177,24 +151,21 @@ fn answer(name: &str, args: &mut Args) -> String {
                 tables::read(args),
                 args.size(),
             );
-            show(orders::in_two_tables(&first, i, &second, k, method(args)))
+            show(orders::in_two_tables(
+                pending(&first, i),
+                pending(&second, k),
+                method(args),
+            ))
         }
         "in_any_order" => {
             let table = tables::read(args);
-            show(orders::in_any_order(&table, method(args), args.size()))
+            let method = method(args);
+            show(orders::in_any_order(pending(&table, args.size()), method))
         }
         "demand_in_order" => {
             let (own, terms) = (Ticks(args.number()), terms(args));
             let order: Vec<usize> = args.list().iter().map(|k| *k as usize).collect();
             show(orders::demand_in_order(own, &terms, &order, args.number()))
-        }
-        "counted" => {
-            let table = tables::read(args);
-            show(responses::counted(&table, single(args), args.size()))
-        }
-        "combined" => {
-            let table = tables::read(args);
-            show(responses::combined(&table, args.size()))
         }
         "alone" => show(
             Alone {
@@ -215,7 +186,6 @@ fn answer(name: &str, args: &mut Args) -> String {
             args.number(),
             args.number(),
         )),
-        "growth_left" => show(texts::growth_left(&args.bytes(), args.number())),
         "read_then_written" => {
             let mut out = [b'~'; 16384];
             let read = texts::read_then_written(&args.bytes(), &mut out);

@@ -1,9 +1,10 @@
 // What the public functions of `report` answer.
 use crate::verdicts::{every_verdict, write_verdict_line};
 use crate::{explanation, report};
-use analysis::costs::Single;
-use analysis::{rows, Method};
-use search::demand::{Response, Row};
+use analysis::rows::{self, Row};
+use analysis::Method;
+use search::demand::Response;
+use table::accepted::Accepted;
 use writing::writer::Draft;
 use ::{cache, table};
 
@@ -13,6 +14,10 @@ mod common;
 mod tables;
 use cache::units::Ticks;
 use common::{filled, show, text, unknown, Args};
+
+fn method(args: &mut Args) -> Method {
+    Method::from_number(args.number()).expect("a method")
+}
 
 // Rows of six responses each, 0 where there is none.
 fn rows_of(args: &mut Args) -> Vec<Row> {
@@ -37,24 +42,13 @@ fn answer(name: &str, args: &mut Args) -> String {
         "report" => {
             let table = tables::read(args);
             let mut out = args.buffer();
-            filled(report(&table, &rows::responses(&table), &mut out), &out)
+            filled(report(&table, &rows::responses(Accepted { table: &table }), &mut out), &out)
         }
         "explain" => {
             let table = tables::read(args);
-            let method = match args.number() {
-                5 => Method::Combined,
-                n => Method::Of(
-                    [
-                        Single::None,
-                        Single::EcbOnly,
-                        Single::UcbOnly,
-                        Single::UcbUnion,
-                        Single::EcbUnion,
-                    ][n as usize],
-                ),
-            };
-            let (i, mut out) = (args.size(), args.buffer());
-            filled(explanation::explain(&table, method, i, &mut out), &out)
+            let (method, i, mut out) = (method(args), args.size(), args.buffer());
+            let pending = Accepted { table: &table }.pending(i);
+            filled(explanation::explain(pending, method, &mut out), &out)
         }
         "every_verdict" => show(every_verdict(&rows_of(args))),
         "verdict_line" => {

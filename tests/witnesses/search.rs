@@ -1,42 +1,19 @@
 // What the public functions of `search` answer, as far as their promises leave one answer.
-use crate::demand::{demand_at, Response, Term};
+use crate as search;
+use crate::demand::{demand_at, Response};
 use crate::hasten::hasten;
 use crate::response::{firsts, least, least_beyond, Count};
 use crate::rounds::{window_at, WINDOWS};
 use crate::shares::{left_by, listed, share};
+use ::cache;
 use cache::units::Ticks;
 
 #[path = "common.rs"]
 mod common;
-use common::{number, show, unknown, Args};
-
-// PERIOD/JITTER/WEIGHT
-fn term_of(word: &str) -> Term {
-    let numbers: Vec<u64> = word.split('/').map(number).collect();
-    Term {
-        period: Ticks(numbers[0]),
-        jitter: Ticks(numbers[1]),
-        weight: Ticks(numbers[2]),
-    }
-}
-
-fn terms(args: &mut Args) -> Vec<Term> {
-    let word = args.word();
-    if word == "-" {
-        vec![]
-    } else {
-        word.split(',').map(term_of).collect()
-    }
-}
-
-fn response(args: &mut Args) -> Response {
-    let word = args.word();
-    if word == "-" {
-        Response::Unschedulable
-    } else {
-        Response::Within(Ticks(number(word)))
-    }
-}
+#[path = "terms.rs"]
+mod terms;
+use common::{show, unknown, Args};
+use terms::{response, term_of, terms};
 
 fn answer(name: &str, args: &mut Args) -> String {
     match name {

@@ -1,41 +1,21 @@
 // What the public functions of `table` answer.
 use crate as table;
+use crate::accepted::Accepted;
 use crate::accesses::Access;
 use crate::fields::{is_name, is_within, read_number, same_bytes};
-use crate::refusals::{Reason, Refusal};
+use crate::refusals::Refusal;
 use crate::tasks::{is_known, position_of, Head, Name, Task};
 use crate::text::{first_field, next_line, Fields, Lines};
 use crate::Table;
 use ::cache;
 use cache::units::Ticks;
-use cache::useful::{Form, Useful};
+use cache::useful::Useful;
 
 #[path = "common.rs"]
 mod common;
 #[path = "tables.rs"]
 mod tables;
 use common::{show, text, unknown, Args};
-
-pub const REASONS: [Reason; 18] = [
-    Reason::TooLong,
-    Reason::NotEnded,
-    Reason::Shape,
-    Reason::Name,
-    Reason::Number,
-    Reason::Range,
-    Reason::Marks,
-    Reason::Order,
-    Reason::KnownName,
-    Reason::TooManyTasks,
-    Reason::NoTask,
-    Reason::Method,
-    Reason::Position,
-    Reason::ShortBuffer,
-    Reason::OtherTask,
-    Reason::TooManyAccesses,
-    Reason::Blocking,
-    Reason::NoText,
-];
 
 // A name of any twelve bytes.
 fn name_of(args: &mut Args) -> Name {
@@ -46,14 +26,6 @@ fn name_of(args: &mut Args) -> Name {
     name
 }
 
-// How useful blocks are written: 0 for hex digits, or the ways.
-fn form(args: &mut Args) -> Form {
-    match args.number() {
-        0 => Form::Hex,
-        ways => Form::Digits(ways),
-    }
-}
-
 fn answer(name: &str, args: &mut Args) -> String {
     match name {
         "empty" => tables::shown(&Table::empty()),
@@ -61,6 +33,18 @@ fn answer(name: &str, args: &mut Args) -> String {
             let mut table = Table::empty();
             let read = table.read(&args.bytes());
             format!("{:?} {}", read, tables::shown(&table))
+        }
+        "accepted" => {
+            let mut table = Table::empty();
+            match Accepted::read(&args.bytes(), &mut table) {
+                Ok(accepted) => tables::shown(accepted.table),
+                Err(refusal) => show(refusal),
+            }
+        }
+        "pending" => {
+            let table = tables::changed(args);
+            let pending = Accepted { table: &table }.pending(args.size());
+            show((pending.i, pending.task(), pending.limit()))
         }
         "tasks" => show(tables::changed(args).tasks()),
         "task" => show(tables::changed(args).task(args.size())),
@@ -85,8 +69,8 @@ fn answer(name: &str, args: &mut Args) -> String {
         "is_name" => show(is_name(&args.bytes())),
         "is_within" => show(is_within(args.number(), args.number(), args.number())),
         "same_bytes" => show(same_bytes(&args.bytes(), &args.bytes())),
-        "number" => show(REASONS[args.size()].number()),
-        "untold" => show(Refusal::untold(REASONS[args.size()])),
+        "number" => show(tables::REASONS[args.size()].number()),
+        "untold" => show(Refusal::untold(tables::REASONS[args.size()])),
         "name_of" => show(Name::of(&args.bytes())),
         "name_len" => show(name_of(args).len()),
         "ways" => show(tables::changed(args).ways()),
@@ -108,20 +92,20 @@ fn answer(name: &str, args: &mut Args) -> String {
             Head {
                 sets: args.number(),
                 brt: Ticks(args.number()),
-                form: form(args),
+                form: tables::form(args),
             }
             .in_range(),
         ),
         "task_line" => show(Task::read(
             &args.bytes(),
-            form(args),
+            tables::form(args),
             args.number(),
             tables::changed(args).tasks(),
         )),
         "is_timely" => show(tables::changed(args).task(args.size()).is_timely()),
         "access_line" => show(Access::read(
             &args.bytes(),
-            form(args),
+            tables::form(args),
             args.number(),
             tables::changed(args).tasks(),
         )),

@@ -1,6 +1,7 @@
 // What the public functions of `table_text` answer.
 use crate::extent::length;
-use crate::readable::is_readable;
+use crate::readable::accepted;
+use table::accepted::Accepted;
 use crate::write;
 use ::{cache, table};
 
@@ -14,10 +15,10 @@ fn answer(name: &str, args: &mut Args) -> String {
     match name {
         "write" => {
             let (table, mut out) = (tables::read(args), args.buffer());
-            filled(write(&table, &mut out), &out)
+            filled(write(Accepted { table: &table }, &mut out), &out)
         }
         "length" => show(length(&tables::changed(args))),
-        "is_readable" => show(is_readable(&tables::changed(args))),
+        "is_readable" => show(accepted(&tables::changed(args)).is_some()),
         _ => unknown(name),
     }
 }

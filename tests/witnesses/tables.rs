@@ -4,8 +4,42 @@ use super::cache::units::Ticks;
 use super::cache::useful::{Form, Useful};
 use super::common::{number, Args};
 use super::table::accesses::Access;
+use super::table::refusals::Reason;
 use super::table::tasks::{Name, Task};
 use super::table::Table;
+
+pub const REASONS: [Reason; 18] = [
+    Reason::TooLong,
+    Reason::NotEnded,
+    Reason::Shape,
+    Reason::Name,
+    Reason::Number,
+    Reason::Range,
+    Reason::Marks,
+    Reason::Order,
+    Reason::KnownName,
+    Reason::TooManyTasks,
+    Reason::NoTask,
+    Reason::Method,
+    Reason::Position,
+    Reason::ShortBuffer,
+    Reason::OtherTask,
+    Reason::TooManyAccesses,
+    Reason::Blocking,
+    Reason::NoText,
+];
+
+// How useful blocks are written: 0 for hex digits, or the ways.
+fn form_of(number: u64) -> Form {
+    match number {
+        0 => Form::Hex,
+        ways => Form::Digits(ways),
+    }
+}
+
+pub fn form(args: &mut Args) -> Form {
+    form_of(args.number())
+}
 
 pub fn read(args: &mut Args) -> Table {
     let mut table = Table::empty();
@@ -39,12 +73,7 @@ pub fn changed(args: &mut Args) -> Table {
         match place {
             "sets" => table.sets = number(value),
             "brt" => table.brt = Ticks(number(value)),
-            "form" => {
-                table.form = match number(value) {
-                    0 => Form::Hex,
-                    ways => Form::Digits(ways),
-                }
-            }
+            "form" => table.form = form_of(number(value)),
             "count" => table.count = number(value) as usize,
             "access_count" => table.access_count = number(value) as usize,
             _ => {

@@ -3,41 +3,15 @@ use crate::delivery::{deliver, put, put_at, write_error};
 use crate::marks::{marks_fit, useful_fits, write_marks, write_useful};
 use crate::writer::{digits_in, Draft};
 use cache::sets::CacheSet;
-use cache::useful::{Form, Useful};
-use table::refusals::{Reason, Refusal};
+use cache::useful::Useful;
+use table::refusals::Refusal;
+use ::{cache, table};
 
 #[path = "common.rs"]
 mod common;
+#[path = "tables.rs"]
+mod tables;
 use common::{filled, show, text, unknown, Args};
-
-const REASONS: [Reason; 18] = [
-    Reason::TooLong,
-    Reason::NotEnded,
-    Reason::Shape,
-    Reason::Name,
-    Reason::Number,
-    Reason::Range,
-    Reason::Marks,
-    Reason::Order,
-    Reason::KnownName,
-    Reason::TooManyTasks,
-    Reason::NoTask,
-    Reason::Method,
-    Reason::Position,
-    Reason::ShortBuffer,
-    Reason::OtherTask,
-    Reason::TooManyAccesses,
-    Reason::Blocking,
-    Reason::NoText,
-];
-
-// How useful blocks are written: 0 for hex digits, or the ways.
-fn form(args: &mut Args) -> Form {
-    match args.number() {
-        0 => Form::Hex,
-        ways => Form::Digits(ways),
-    }
-}
 
 // The words of each level, from the first on: those that are not told are 0.
 fn useful(args: &mut Args) -> Useful {
@@ -68,13 +42,13 @@ fn drafted(args: &mut Args) -> Draft {
                 CacheSet::from_words(&args.list(), 0),
             ),
             "useful" => {
-                let (form, sets) = (form(args), args.number());
+                let (form, sets) = (tables::form(args), args.number());
                 write_useful(&mut draft, form, sets, &useful(args));
             }
             "error" => write_error(
                 &mut draft,
                 Refusal {
-                    reason: REASONS[args.size()],
+                    reason: tables::REASONS[args.size()],
                     line: args.number(),
                 },
             ),
@@ -101,7 +75,11 @@ fn answer(name: &str, args: &mut Args) -> String {
             filled(Ok::<usize, Refusal>(end), &out)
         }
         "digits_in" => show(digits_in(args.number())),
-        "useful_fits" => show(useful_fits(form(args), args.number(), &useful(args))),
+        "useful_fits" => show(useful_fits(
+            tables::form(args),
+            args.number(),
+            &useful(args),
+        )),
         "marks_fit" => show(marks_fit(
             args.number(),
             CacheSet::from_words(&args.list(), 0),

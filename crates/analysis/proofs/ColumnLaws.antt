@@ -25,7 +25,7 @@ use Rattle.analysis.proofs.HitLaws.{larger-most, hit-none, hit-next, largest-fro
 use Rattle.analysis.proofs.CostLaws.{hit-most, counts-few}
 use Rattle.analysis.specs.declared.carried.Column.{Column}
 use Rattle.analysis.specs.declared.carried.Counted.{Counted}
-use Rattle.analysis.specs.Carried.{Next, ColumnOf, Small, Few, count_told, count_of, count_with, no_column, column_in, Ledger, Passing}
+use Rattle.analysis.specs.Carried.{Next, ColumnOf, Small, FewReloadsCounted, count_told, count_of, count_with, no_column, column_in, Ledger, LedgerInRow}
 
 module _ (table : Table) (j : ℕ) where
   -- before the row below it: nothing is gathered, and the first that could be hit is the task below
@@ -109,7 +109,7 @@ column-small table j i c accepted p = record {
 
 -- the counts of a small column, and with one UCB more, are small
 pub counted-few : (ways : ℕ) (ecb : Set) (c : Column) (n : Counted) → Small c → n.ucb_union.0 ≤ 2048
-    → ((m : Single) → count_told n m ≡ count_of ways ecb c m) → Few n
+    → ((m : Single) → count_told n m ≡ count_of ways ecb c m) → FewReloadsCounted n
 counted-few ways ecb c n s u e = record {
   ecb_only = subst (λ (x : ℕ). x ≤ 2048) (sym (e EcbOnly)) s.evicting;
   ucb_only = subst (λ (x : ℕ). x ≤ 2048) (sym (e UcbOnly)) s.most;
@@ -118,7 +118,7 @@ counted-few ways ecb c n s u e = record {
 }
 
 pub with-few : (ways : ℕ) (ecb : Set) (c : Column) (ucb : Useful) (k : ℕ) (n : Counted) → ways ≤ 8 → Small c → n.ucb_union.0 ≤ 2048
-    → ((m : Single) → count_told n m ≡ count_with ways ecb c (counts ways ucb) k m) → Few n
+    → ((m : Single) → count_told n m ≡ count_with ways ecb c (counts ways ucb) k m) → FewReloadsCounted n
 with-few ways ecb c ucb k n few s u e = record {
   ecb_only = subst (λ (x : ℕ). x ≤ 2048) (sym (e EcbOnly)) s.evicting;
   ucb_only = subst (λ (x : ℕ). x ≤ 2048) (sym (e UcbOnly)) (larger-most _ _ s.most (total-small ways ucb few));
@@ -128,10 +128,10 @@ with-few ways ecb c ucb k n few s u e = record {
 
 -- ---- inside a row
 
-pub passing-next : (table : Table) (l : List Column) (i j : ℕ) (r : Column) → j < 32 → Passing table i j l → ColumnOf table j (i + 1) r
-    → Passing table i (j + 1) (set l j r)
+pub passing-next : (table : Table) (l : List Column) (i j : ℕ) (r : Column) → j < table.count → LedgerInRow table i j l → ColumnOf table j (i + 1) r
+    → LedgerInRow table i (j + 1) (set l j r)
 passing-next table l i j r few p c = record {
-  long = simp length-set p.long;
+  long = omega (arith, p.long, length-set l j r);
   past = below_more (λ k. ColumnOf table k (i + 1) (column_in (set l j r) k)) j
       (λ k h. rw (get_or-set_other l j k r no_column (λ z. omega arith)) (p.past k h))
       (rw (get_or-set_same l j r no_column (omega (arith, p.long))) c);
@@ -139,7 +139,7 @@ passing-next table l i j r few p c = record {
 }
 
 -- the task at i gets a column of its own
-pub ledger-next : (table : Table) (l : List Column) (i : ℕ) (r : Column) → i < 32 → Passing table i i l → ColumnOf table i (i + 1) r
+pub ledger-next : (table : Table) (l : List Column) (i : ℕ) (r : Column) → i < table.count → LedgerInRow table i i l → ColumnOf table i (i + 1) r
     → Ledger table (i + 1) (set l i r)
 ledger-next table l i r few p c =
     let q = passing-next table l i i r few p c in record { long = q.long; columns = q.past }

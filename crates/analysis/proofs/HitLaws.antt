@@ -63,6 +63,11 @@ module _ (F : ℕ → ℕ) (from : ℕ) where
       → larger_of so_far (hit n k) ≡ largest_from from F (between from (k + 1))
   hit-next k so_far n h e f = fold_next larger_of (hit 0 from) (λ k. hit (F k) k) from k so_far (hit n k) h e (ap (λ (n : ℕ). hit n k) f)
 
+  -- one whose value is no more than the largest so far is passed over
+  pub hit-passed : (k : ℕ) (so_far : Hit) → from ≤ k → so_far ≡ largest_from from F (between from k) → F k ≤ so_far.reloads.0
+      → so_far ≡ largest_from from F (between from (k + 1))
+  hit-passed k so_far h e l = sym (larger-first so_far (hit (F k) k) l) ∙ hit-next k so_far (F k) h e refl
+
   -- over one position
   largest-one : FirstLargest F from (from + 1) (larger_of (hit 0 from) (hit (F from) from))
   largest-one = larger-by (FirstLargest F from (from + 1)) _ _ (λ l. here (F from) refl) (λ l. here 0 (omega arith))

@@ -1,10 +1,8 @@
 -- How a need is found, and what it says of the response.
-use Rattle.std.proofs.Common.{ℕ, ◌+◌, ◌-◌, max, ◌≤◌, ◌<◌, arith, ◌≡◌, refl, sym, ap, ap₂, ◌∙◌, Bool, true, false, cond, List, [], ◌∷◌, ◌++◌, map, append-nil, ltb, leb, length, get_or, take, take-suc, add-one, le-leb, le-ltb, lt-ltb, ltb-true, ltb-false, fold}
-use Rattle.std.proofs.Math.Decide.{dec_le, dec_lt}
+use Rattle.std.proofs.Common.{ℕ, ◌+◌, ◌-◌, max, ◌≤◌, ◌<◌, arith, ◌≡◌, refl, sym, ap, ap₂, ◌∙◌, Bool, true, false, cond, List, [], ◌∷◌, ◌++◌, map, append_assoc, append-nil, ltb, leb, length, get_or, take, drop, le-leb, le-ltb, lt-ltb, ltb-true, ltb-false, fold}
+use Rattle.std.proofs.Math.Decide.{dec_le}
 use Rattle.std.proofs.lemmas.Bool.{lt-leb}
-use Rattle.std.proofs.lemmas.List.{map-append}
-use Rattle.std.proofs.lemmas.List.Sums.{fold-append}
-use Rattle.std.specs.Prelude.{Option, Some, None}
+use Rattle.std.proofs.lemmas.List.Elements.{filter_more}
 use Rattle.cache.specs.declared.units.Ticks.{Ticks}
 use Rattle.search.specs.declared.demand.Response.{Response}
 use Rattle.search.specs.declared.demand.Response.TheVariants.{Within, Unschedulable}
@@ -14,17 +12,18 @@ use Rattle.search.proofs.LaterLaws.{latest-front}
 use Rattle.table.specs.Tasks.{limit_of}
 use Rattle.table.specs.declared.accesses.Access.{Access}
 use Rattle.table.specs.Accesses.{may_block, blocking, or_else, empty_access, blank_access}
-use Rattle.table.proofs.BlockingLaws.{Every, blocking-snoc}
+use Rattle.table.proofs.BlockingLaws.{Every}
 use Rattle.table.specs.declared.Table.{Table}
-use Rattle.table.specs.Tables.{at, accesses_of}
+use Rattle.table.specs.Tables.{at, accesses_of, access_at}
 use Rattle.table.specs.Accepted.{AcceptedTable}
-use Rattle.analysis.specs.Analysis.{blockers_of, least_under, answer_of, response_of}
+use Rattle.analysis.specs.Analysis.{blockers_of, least_under, counted_response, response_of, MayBlock, MayBlockAt}
 use Rattle.analysis.specs.declared.costs.Single.{Single}
 use Rattle.analysis.specs.declared.costs.Single.TheVariants.{UcbUnion, EcbUnion}
 use Rattle.analysis.specs.declared.Method.{Method}
 use Rattle.analysis.specs.declared.Method.TheVariants.{Of, Combined}
 use Rattle.analysis.specs.declared.need.Need.{Need}
-use Rattle.analysis.specs.Needs.{is_sooner, need_with, larger_need, largest_need, needed_of, smaller_of, need_of, MayBlockAt, need_at, just_before}
+use Rattle.analysis.specs.Needs.{is_sooner, need_with, larger_need, largest_need, needed_of, smaller_of, need_of, need_at, just_before}
+use Rattle.analysis.proofs.BlockerLaws.{blockers-parts, behind-block}
 
 -- what holds of what is needed under each method that counts holds of the need that is explained
 pub need-by : (P : Need → Type 0) (table : Table) (i : ℕ) (m : Method) → ((k : Single) → P (needed_of table k i)) → P (need_of table m i)
@@ -36,17 +35,7 @@ need-by P table i Combined each = union (is_sooner (needed_of table UcbUnion i).
     union true = each UcbUnion
     union false = each EcbUnion
 
--- ---- over the accesses that may block, one after the other
-
--- the larger of the one so far, if there is one, and another
-abbrev larger_of_some : Option Need → Need → Need
-larger_of_some None need = need
-larger_of_some (Some so_far) need = larger_need so_far need
-
--- the largest over some accesses, if there are some
-abbrev largest_some : (Access → Need) → List Access → Option Need
-largest_some W [] = None
-largest_some W (a ∷ l) = Some (largest_need W (a ∷ l))
+-- ---- the largest need
 
 larger-self : (a : Need) → larger_need a a ≡ a
 larger-self a = pick (is_sooner a.time a.time)
@@ -55,34 +44,8 @@ larger-self a = pick (is_sooner a.time a.time)
     pick true = refl
     pick false = refl
 
-largest-one : (W : Access → Need) (a : Access) → largest_need W (a ∷ []) ≡ W a
+pub largest-one : (W : Access → Need) (a : Access) → largest_need W (a ∷ []) ≡ W a
 largest-one W a = larger-self (W a)
-
--- one more at the end
-largest-next : (W : Access → Need) (l : List Access) (a : Access) → Some (larger_of_some (largest_some W l) (W a)) ≡ largest_some W (l ++ (a ∷ []))
-largest-next W [] a = ap Some (sym (largest-one W a))
-largest-next W (b ∷ l) a =
-    ap Some (
-    sym (fold-append larger_need (W b) (map W (b ∷ l)) (W a ∷ []))
-    ∙ ap (λ (ns : List Need). fold larger_need (W b) ns) (sym (map-append W (b ∷ l) (a ∷ [])))
-    )
-
--- a need that is larger than all of these, or as large as the largest
-abbrev Below : Option Need → Response → Type 0
-Below None t = Unit {0}
-Below (Some need) t = is_sooner need.time t ≡ true
-
-below-larger : (so_far : Option Need) (need : Need) → Below so_far need.time → larger_of_some so_far need ≡ need
-below-larger None need p = refl
-below-larger (Some q) need p = rw p refl
-
-below-both : (so_far : Option Need) (need : Need) (t : Response) → Below so_far t → is_sooner need.time t ≡ true → Below (Some (larger_of_some so_far need)) t
-below-both None need t p e = e
-below-both (Some q) need t p e = pick (is_sooner q.time need.time)
-  where
-    pick : (b : Bool) → is_sooner (cond b need q).time t ≡ true
-    pick true = e
-    pick false = p
 
 -- the order of times
 sooner-than : (a t u : Response) → is_sooner a t ≡ true → is_sooner u t ≡ false → is_sooner a u ≡ true
@@ -91,9 +54,41 @@ sooner-than (Within x) Unschedulable (Within z) p q = cc
 sooner-than (Within x) t Unschedulable p q = refl
 sooner-than Unschedulable t u p q = cc
 
-below-later : (so_far : Option Need) (t u : Response) → Below so_far t → is_sooner u t ≡ false → Below so_far u
-below-later None t u p e = tt
-below-later (Some q) t u p e = sooner-than q.time t u p e
+sooner-not : (a b : Response) → is_sooner a b ≡ true → is_sooner b a ≡ false
+sooner-not (Within x) (Within y) p = let l = ltb-true x.0 y.0 p in le-ltb y.0 x.0 (omega arith)
+sooner-not (Within x) Unschedulable p = refl
+sooner-not Unschedulable b p = cc
+
+no-sooner : (a b c : Response) → is_sooner a b ≡ false → is_sooner b c ≡ false → is_sooner a c ≡ false
+no-sooner (Within x) (Within y) (Within z) p q = let l = ltb-false x.0 y.0 p in let k = ltb-false y.0 z.0 q in le-ltb x.0 z.0 (omega arith)
+no-sooner (Within x) (Within y) Unschedulable p q = cc
+no-sooner (Within x) Unschedulable c p q = cc
+no-sooner Unschedulable b c p q = refl
+
+larger-assoc : (a b c : Need) → larger_need (larger_need a b) c ≡ larger_need a (larger_need b c)
+larger-assoc a b c = go (is_sooner a.time b.time) (is_sooner b.time c.time) refl refl
+  where
+    go : (t u : Bool) → is_sooner a.time b.time ≡ t → is_sooner b.time c.time ≡ u → larger_need (cond t b a) c ≡ larger_need a (cond u c b)
+    go true true e f = rw (f, sooner-than a.time b.time c.time e (sooner-not b.time c.time f)) refl
+    go true false e f = rw (f, e) refl
+    go false true e f = refl
+    go false false e f = rw (e, no-sooner a.time b.time c.time e f) refl
+
+-- two that stand side by side may be one that is the larger of them
+pub largest-two : (W : Access → Need) (xs ys : List Access) (a b c : Access) → W c ≡ larger_need (W a) (W b)
+    → largest_need W (xs ++ (a ∷ b ∷ ys)) ≡ largest_need W (xs ++ (c ∷ ys))
+largest-two W [] ys a b c e =
+    ap (λ (z : Need). fold larger_need z (map W ys)) (ap (λ (z : Need). larger_need z (W b)) (larger-self (W a)) ∙ sym e ∙ sym (larger-self (W c)))
+largest-two W (x ∷ xs) ys a b c e = go xs (larger_need (W x) (W x))
+  where
+    go : (l : List Access) (z : Need) → fold larger_need z (map W (l ++ (a ∷ b ∷ ys))) ≡ fold larger_need z (map W (l ++ (c ∷ ys)))
+    go [] z = ap (λ (n : Need). fold larger_need n (map W ys)) (larger-assoc z (W a) (W b) ∙ ap (larger_need z) (sym e))
+    go (y ∷ l) z = go l (larger_need z (W y))
+
+pub largest-on : (W : Access → Need) (a : Access) (l : List Access) → largest_need W (a ∷ l) ≡ fold larger_need (W a) (map W l)
+largest-on W a l = ap (λ (z : Need). fold larger_need z (map W l)) (larger-self (W a))
+
+-- ---- one more that is asked
 
 -- one that is asked whether it needs no less than the latest
 no-less : (t w : Response) (known : Ticks) → is_sooner (later (just_before t known) w) t ≡ false → (later (just_before t known) w ≡ w) × (is_sooner w t ≡ false)
@@ -121,132 +116,100 @@ no-more (Within x) (Within y) e = let l = ltb-false x.0 (max x.0 y.0) e in le-lt
 no-more (Within x) Unschedulable e = cc
 no-more Unschedulable w e = refl
 
--- what was found over all that may block the task
+-- what is found from one of them on
 module _ (table : Table) (m : Single) (i : ℕ) where
   abbrev W : Access → Need
   W = need_with (λ a. least_under table a m i 250000000) m
 
   abbrev access : ℕ → Access
-  access n = get_or table.accesses n blank_access
+  access n = get_or (accesses_of table) n blank_access
 
-  -- the largest of the first n that may block
-  abbrev S : ℕ → Option Need
-  S n = largest_some W (blocking i (take n table.accesses))
+  -- the largest of those that may block among the first n, of the one that was found, and of those that may behind the one at k, is the largest of all
+  pub record Before (k n : ℕ) (found : Access) (time : Response) : Type 0 where
+    pub is : time ≡ least_under table found m i 250000000
+    pub all : largest_need W (blocking i (take n (accesses_of table)) ++ (found ∷ blocking i (drop (k + 1) (accesses_of table)))) ≡ needed_of table m i
 
-  some-needed : (need : Need) → Some need ≡ largest_some W (blocking i (accesses_of table)) → need ≡ needed_of table m i
-  unfolding needed_of
-  some-needed need e = go (blocking i (accesses_of table)) e
-    where
-      go : (l : List Access) → Some need ≡ largest_some W l → need ≡ largest_need W (or_else empty_access l)
-      go [] e = cc
-      go (a ∷ l) e = cc
+  -- and the larger of the one that was found and of those that are left
+  pub record Behind (found : Access) (time : Response) (rest : List Access) : Type 0 where
+    pub is : time ≡ least_under table found m i 250000000
+    pub all : fold larger_need (W found) (map W rest) ≡ needed_of table m i
+    pub block : Every (λ a. MayBlock a i) rest
+
+  pub before-begun : {k : ℕ} {time : Response} → MayBlockAt (accesses_of table) i k → time ≡ need_at table m i k → Before k k (access k) time
+  unfolding needed_of access_at
+  before-begun {k} h e = record { is = e; all = ap (largest_need W) (sym (blockers-parts table i k h)) }
+
+  module _ {k n : ℕ} (few : n < length (accesses_of table)) {found : Access} {time : Response} (p : Before k (n + 1) found time) where
+    abbrev rest : List Access
+    rest = blocking i (drop (k + 1) (accesses_of table))
+
+    next : blocking i (take (n + 1) (accesses_of table)) ≡ blocking i (take n (accesses_of table)) ++ cond (may_block i (access n)) (access n ∷ []) []
+    next = filter_more (may_block i) (accesses_of table) n blank_access few
+
+    pub before-none : may_block i (access n) ≡ false → Before k n found time
+    before-none e = record {
+      is = p.is;
+      all = ap (λ (l : List Access). largest_need W (l ++ (found ∷ rest))) (sym (rw e at next ∙ append-nil (blocking i (take n (accesses_of table))))) ∙ p.all;
+    }
+
+    module _ (e : may_block i (access n) ≡ true) (known : Ticks) {own : Response} (is : own ≡ later (just_before time known) (least_under table (access n) m i 250000000)) where
+      two : largest_need W (blocking i (take n (accesses_of table)) ++ (access n ∷ found ∷ rest)) ≡ needed_of table m i
+      two =
+          ap (largest_need W) (sym (append_assoc (blocking i (take n (accesses_of table))) (access n ∷ []) (found ∷ rest)) ∙ ap (λ (l : List Access). l ++ (found ∷ rest)) (sym (rw e at next)))
+          ∙ p.all
+
+      -- it needs no less, or less
+      pub before-taken : is_sooner own time ≡ false → Before k n (access n) own
+      before-taken f =
+          let w = no-less time (least_under table (access n) m i 250000000) known (rw is at f) in
+          let t : is_sooner (least_under table (access n) m i 250000000) (least_under table found m i 250000000) ≡ false = rw p.is at w.1 in
+          record {
+            is = is ∙ w.0;
+            all = sym (largest-two W (blocking i (take n (accesses_of table))) rest (access n) found (access n) (rw t refl)) ∙ two;
+          }
+
+      pub before-kept : is_sooner own time ≡ true → Before k n found time
+      before-kept f =
+          let w = less time (least_under table (access n) m i 250000000) known (rw is at f) in
+          let t : is_sooner (least_under table (access n) m i 250000000) (least_under table found m i 250000000) ≡ true = rw p.is at w in
+          record {
+            is = p.is;
+            all = sym (largest-two W (blocking i (take n (accesses_of table))) rest (access n) found found (rw t refl)) ∙ two;
+          }
+
+  pub behind-begun : AcceptedTable table → {k : ℕ} → MayBlockAt (accesses_of table) i k → {found : Access} {time : Response} → Before k 0 found time
+      → Behind found time (blocking i (drop (k + 1) (accesses_of table)))
+  behind-begun accepted {k} h {found} p = record {
+    is = p.is;
+    all = sym (largest-on W found (blocking i (drop (k + 1) (accesses_of table)))) ∙ p.all;
+    block = behind-block table i accepted k h;
+  }
+
+  module _ {found a : Access} {time : Response} {l : List Access} (p : Behind found time (a ∷ l)) {own : Response} (is : own ≡ later time (least_under table a m i 250000000)) where
+    pub behind-taken : is_sooner time own ≡ true → Behind a own l
+    behind-taken f =
+        let w = more time (least_under table a m i 250000000) (rw is at f) in
+        let t : is_sooner (least_under table found m i 250000000) (least_under table a m i 250000000) ≡ true = rw p.is at w.1 in
+        record { is = is ∙ w.0; all = ap (λ (z : Need). fold larger_need z (map W l)) (sym (taken t)) ∙ p.all; block = p.block.1 }
+      where
+        taken : is_sooner (least_under table found m i 250000000) (least_under table a m i 250000000) ≡ true → larger_need (W found) (W a) ≡ W a
+        taken t = rw t refl
+
+    pub behind-kept : is_sooner time own ≡ false → Behind found time l
+    behind-kept f =
+        let w = no-more time (least_under table a m i 250000000) (rw is at f) in
+        let t : is_sooner (least_under table found m i 250000000) (least_under table a m i 250000000) ≡ false = rw p.is at w in
+        record { is = p.is; all = ap (λ (z : Need). fold larger_need z (map W l)) (sym (kept t)) ∙ p.all; block = p.block.1 }
+      where
+        kept : is_sooner (least_under table found m i 250000000) (least_under table a m i 250000000) ≡ false → larger_need (W found) (W a) ≡ W found
+        kept t = rw t refl
+
+  pub behind-all : {found : Access} {time : Response} → Behind found time [] → record { method = m; time = time; blocker = found } ≡ needed_of table m i
+  behind-all {found} p = ap (λ (t : Response). record { method = m; time = t; blocker = found }) p.is ∙ p.all
 
   pub none-needed : blocking i (accesses_of table) ≡ [] → W empty_access ≡ needed_of table m i
   unfolding needed_of
   none-needed e = sym (largest-one W empty_access) ∙ ap (λ (l : List Access). largest_need W (or_else empty_access l)) (sym e)
-
-  -- after the first n accesses: the one at k needs the most of these and itself, and no earlier one as much
-  pub record First (n k : ℕ) (time : Response) : Type 0 where
-    pub held : MayBlockAt table i k
-    pub is : time ≡ need_at table m i k
-    pub among : k < n → Some (W (access k)) ≡ S n
-    pub ahead : n ≤ k → Below (S n) (need_at table m i k)
-
-  pub first-begun : {k : ℕ} {time : Response} → MayBlockAt table i k → time ≡ need_at table m i k → First 0 k time
-  first-begun h e = record { held = h; is = e; among = λ l. absurd (omega arith); ahead = λ l. tt }
-
-  module _ (n : ℕ) (few : n < length table.accesses) {k : ℕ} {time : Response} (p : First n k time) where
-    next : blocking i (take (n + 1) table.accesses) ≡ blocking i (take n table.accesses) ++ cond (may_block i (access n)) (access n ∷ []) []
-    next = rw (add-one, take-suc table.accesses n blank_access few) (blocking-snoc i (take n table.accesses) (access n))
-
-    next-yes : may_block i (access n) ≡ true → S (n + 1) ≡ Some (larger_of_some (S n) (W (access n)))
-    next-yes e = ap (largest_some W) (rw e at next) ∙ sym (largest-next W (blocking i (take n table.accesses)) (access n))
-
-    next-no : may_block i (access n) ≡ false → S (n + 1) ≡ S n
-    next-no e = ap (largest_some W) (rw e at next ∙ append-nil (blocking i (take n table.accesses)))
-
-    -- it may not block the task
-    pub first-none : may_block i (access n) ≡ false → First (n + 1) k time
-    first-none e =
-        let other : n ≡ k → ⊥ = λ h. (let yes : may_block i (access n) ≡ true = rw h p.held.1 in let no : true ≡ false = sym yes ∙ e in cc) in
-        record {
-          held = p.held;
-          is = p.is;
-          among = λ l. elim (dec_lt k n) [ yes h ↦ p.among h ∙ sym (next-no e) | no h ↦ absurd (other (omega arith)) ];
-          ahead = λ l. rw (next-no e) (p.ahead (omega arith));
-        }
-
-    -- it is the one at k
-    pub first-same : n ≡ k → First (n + 1) k time
-    first-same h =
-        let yes : may_block i (access n) ≡ true = rw h p.held.1 in
-        let need : access n ≡ access k = ap access h in
-        record {
-          held = p.held;
-          is = p.is;
-          among = λ l. ap Some (sym (below-larger (S n) (W (access k)) (p.ahead (omega arith)))) ∙ ap (λ (a : Access). Some (larger_of_some (S n) (W a))) (sym need) ∙ sym (next-yes yes);
-          ahead = λ l. absurd (omega arith);
-        }
-
-    module _ (blocks : may_block i (access n) ≡ true) where
-      -- one before that at k, which needs no less, or less
-      module _ (before : n < k) (known : Ticks) {own : Response} (is : own ≡ later (just_before time known) (need_at table m i n)) where
-        pub first-before : n < table.access_count → is_sooner own time ≡ false → First (n + 1) n own
-        first-before h e =
-            let w = no-less time (need_at table m i n) known (rw is at e) in
-            let t : is_sooner (need_at table m i n) (need_at table m i k) ≡ false = rw p.is at w.1 in
-            record {
-              held = (h, blocks);
-              is = is ∙ w.0;
-              among = λ l. ap Some (sym (below-larger (S n) (W (access n)) (below-later (S n) _ _ (p.ahead (omega arith)) t))) ∙ sym (next-yes blocks);
-              ahead = λ l. absurd (omega arith);
-            }
-
-        pub first-kept : is_sooner own time ≡ true → First (n + 1) k time
-        first-kept e =
-            let w = less time (need_at table m i n) known (rw is at e) in
-            record {
-              held = p.held;
-              is = p.is;
-              among = λ l. absurd (omega arith);
-              ahead = λ l. rw (next-yes blocks) (below-both (S n) (W (access n)) _ (p.ahead (omega arith)) (rw p.is at w));
-            }
-
-      -- one behind it, which needs more, or no more
-      module _ (behind : k < n) {own : Response} (is : own ≡ later time (need_at table m i n)) where
-        pub first-behind : n < table.access_count → is_sooner time own ≡ true → First (n + 1) n own
-        first-behind h e =
-            let w = more time (need_at table m i n) (rw is at e) in
-            let t : is_sooner (need_at table m i k) (need_at table m i n) ≡ true = rw p.is at w.1 in
-            record {
-              held = (h, blocks);
-              is = is ∙ w.0;
-              among = λ l. ap Some (sym (taken t)) ∙ ap (λ (s : Option Need). Some (larger_of_some s (W (access n)))) (p.among behind) ∙ sym (next-yes blocks);
-              ahead = λ l. absurd (omega arith);
-            }
-          where
-            taken : is_sooner (need_at table m i k) (need_at table m i n) ≡ true → larger_need (W (access k)) (W (access n)) ≡ W (access n)
-            taken t = rw t refl
-
-        pub first-still : is_sooner time own ≡ false → First (n + 1) k time
-        first-still e =
-            let w = no-more time (need_at table m i n) (rw is at e) in
-            let t : is_sooner (need_at table m i k) (need_at table m i n) ≡ false = rw p.is at w in
-            record {
-              held = p.held;
-              is = p.is;
-              among = λ l. ap Some (sym (left t)) ∙ ap (λ (s : Option Need). Some (larger_of_some s (W (access n)))) (p.among behind) ∙ sym (next-yes blocks);
-              ahead = λ l. absurd (omega arith);
-            }
-          where
-            left : is_sooner (need_at table m i k) (need_at table m i n) ≡ false → larger_need (W (access k)) (W (access n)) ≡ W (access k)
-            left t = rw t refl
-
-  -- after all of them
-  pub first-needed : (n k : ℕ) (time : Response) → First n k time → n ≡ table.access_count → record { method = m; time = time; blocker = access k } ≡ needed_of table m i
-  first-needed n k time p e =
-      let w : record { method = m; time = time; blocker = access k } ≡ W (access k) = ap (λ (t : Response). record { method = m; time = t; blocker = access k }) p.is in
-      some-needed _ (ap Some w ∙ p.among (omega (arith, p.held.0, e)) ∙ ap S e)
 
 -- what holds of each need holds of the largest
 pub largest-by : (P : Need → Type 0) (W : Access → Need) (l : List Access) → 1 ≤ length l → Every (λ a. P (W a)) l → P (largest_need W l)
@@ -424,8 +387,8 @@ module _ (table : Table) (accepted : AcceptedTable table) (i : ℕ) (held : i < 
   abbrev needed : Single → Need
   needed m = needed_of table m i
 
-  answer-cut : (m : Single) → within_limit limit (needed m).time ≡ answer_of table m i
-  unfolding needed_of answer_of
+  answer-cut : (m : Single) → within_limit limit (needed m).time ≡ counted_response table m i
+  unfolding needed_of counted_response
   answer-cut m =
       let q = accepted.tasks i held in
       ap (within_limit limit) (largest-time _ (blockers_of table i) (blockers-some table i))

@@ -10,10 +10,10 @@ use Rattle.analysis.specs.declared.costs.Charge.{Charge}
 use Rattle.analysis.specs.declared.costs.Single.TheVariants.{None}
 use Rattle.analysis.specs.Gather.{union_of}
 use Rattle.analysis.specs.Costs.{no_victim, ecb_of}
-use Rattle.analysis.specs.Row.{charge_in, Tells, Charged, Evictors}
+use Rattle.analysis.specs.Row.{charge_in, HoldsCharges, Charged, Evictors}
 
 -- before the first
-pub charged-none : {G : ℕ → Charge} {row : List Charge} (i : ℕ) → length row ≡ 32 → Tells G i i row
+pub charged-none : {G : ℕ → Charge} {row : List Charge} (i : ℕ) → length row ≡ 32 → HoldsCharges G i i row
 charged-none i long = record { long = long; each = λ j h l. absurd (omega arith) }
 
 -- without reloads the row stays as it was made
@@ -22,7 +22,7 @@ charged-nothing table i few = record { long = refl; each = λ j h l. get_or-repl
 
 -- one more in front
 pub tells-front : {G : ℕ → Charge} {row : List Charge} (i from j : ℕ) → j < 32 → from ≡ j + 1 → (g : Charge) → g ≡ G j
-    → Tells G i from row → Tells G i j (set row j g)
+    → HoldsCharges G i from row → HoldsCharges G i j (set row j g)
 tells-front {G} {row} i from j few next g here p = record {
   long = simp length-set p.long;
   each = λ k h b. ⊎_elim (λ (e : j ≡ k). subst (λ (n : ℕ). charge_in (set row j g) n ≡ G n) e own)

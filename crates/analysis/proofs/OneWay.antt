@@ -1,5 +1,5 @@
 -- With 1 way the definitions over the ways are those of sets.
-use Rattle.std.proofs.Common.{ℕ, ◌+◌, ◌*◌, arith, ◌≡◌, refl, sym, ap, ap₂, ◌∙◌, List, [], ◌∷◌}
+use Rattle.std.proofs.Common.{ℕ, ◌+◌, arith, ◌≡◌, refl, sym, ap, ap₂, ◌∙◌, List, [], ◌∷◌}
 use Rattle.std.proofs.Math.Path.{fun_ext}
 use Rattle.cache.specs.Sets.{Set, ∅, ◌∪◌, ◌∩◌, size}
 use Rattle.cache.specs.Counts.{Counts, nothing, of_set, ◌⊕◌, capped, ◌on◌, total}
@@ -9,13 +9,11 @@ use Rattle.cache.proofs.LevelLaws.{one-level}
 use Rattle.search.specs.Positions.{hp, fold_by}
 use Rattle.table.specs.declared.Table.{Table}
 use Rattle.table.specs.Tables.{ways_in, at}
-use Rattle.analysis.specs.declared.costs.Hit.{Hit}
 use Rattle.analysis.specs.declared.costs.Single.{Single}
 use Rattle.analysis.specs.declared.costs.Single.TheVariants.{None, EcbOnly, UcbOnly, UcbUnion, EcbUnion}
-use Rattle.analysis.specs.declared.costs.Charge.{Charge}
 use Rattle.analysis.specs.declared.costs.Charge.TheVariants.{Victim}
 use Rattle.analysis.specs.Gather.{aff, union_of, counts_over, hit, larger_of, largest_at}
-use Rattle.analysis.specs.Costs.{no_victim, charge_of, charge_with, ucb_of, ecb_of, charge_at}
+use Rattle.analysis.specs.Costs.{no_victim, charge_of, charge_with, ecb_of, charge_at}
 use Rattle.analysis.specs.OneWay.{plain_charge, plain_charge_with, marks_of}
 
 -- sets of a sum that is capped at 1: from any start

@@ -19,10 +19,10 @@ use Rattle.table.specs.Accepted.{AcceptedTable}
 use Rattle.analysis.specs.declared.costs.Single.{Single}
 use Rattle.analysis.specs.declared.costs.Single.TheVariants.{None, EcbOnly, UcbOnly, UcbUnion, EcbUnion}
 use Rattle.analysis.specs.Gather.{aff, union_of, counts_over, largest_at}
-use Rattle.analysis.specs.Costs.{ucb_of, ecb_of, reloads_of, reloads_with, term_under}
+use Rattle.analysis.specs.Costs.{ucb_of, ecb_of, reloads_with, term_under}
 use Rattle.analysis.specs.Harder.{Harder, HarderAccess, HarderBy}
 use Rattle.analysis.proofs.HitLaws.{hit-grows, larger-grows}
-use Rattle.analysis.proofs.CostLaws.{reloads-none, under-most}
+use Rattle.analysis.proofs.CostLaws.{under-most}
 
 max-grows : Grows max ◌≤◌
 max-grows = record { same = λ x. omega arith; trans = λ x y w p q. omega arith; more = λ x y. omega arith; both = λ x y v w p q. omega arith }

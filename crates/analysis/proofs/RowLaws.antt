@@ -1,25 +1,24 @@
 -- Facts about the searches of one row.
-use Rattle.std.specs.Prelude.{None as NoPlace}
-use Rattle.std.proofs.Common.{ℕ, ◌+◌, ◌≤◌, ◌<◌, zero-le, mul-le-mul_left, arith, ◌≡◌, refl, sym, ap, subst, ◌∙◌, true, false, ◌⊎◌, inl, inr, Option, Some, List, [], map, length, get_or, set, take, get_or-take, length-take-le}
+use Rattle.std.proofs.Common.{ℕ, ◌+◌, ◌≤◌, ◌<◌, zero-le, mul-le-mul_left, arith, ◌≡◌, refl, sym, ap, subst, ◌∙◌, List, [], ◌∷◌, map, fold, length, set, take, get_or-take, length-take-le}
 use Rattle.cache.specs.Sets.{Set}
 use Rattle.cache.specs.Counts.{Counts}
 use Rattle.search.specs.declared.demand.Response.{Response}
 use Rattle.search.specs.declared.demand.Response.TheVariants.{Within, Unschedulable}
-use Rattle.search.specs.declared.demand.Row.{Row}
+use Rattle.analysis.specs.declared.rows.Row.{Row}
 use Rattle.search.specs.Demand.{term_of, demand_of, NoMore}
-use Rattle.search.specs.Terms.{term_in, InRange, Handed}
-use Rattle.search.specs.Least.{least_of, later, latest_of, NoLater}
+use Rattle.search.specs.Terms.{term_in, InRange, NoOverflow}
+use Rattle.search.specs.Least.{least_of, later, NoLater}
 use Rattle.search.proofs.LeastLaws.{least_of-no-later}
 use Rattle.search.proofs.SoonerLaws.{none-latest}
-use Rattle.search.proofs.LaterLaws.{later-mono, later-assoc, later_first, later_last, later_again, latest-one}
-use Rattle.table.proofs.BlockingLaws.{or_some}
+use Rattle.search.proofs.LaterLaws.{later-mono}
+use Rattle.table.proofs.BlockingLaws.{Every}
 use Rattle.search.proofs.DemandLaws.{no-more-self, demand-same, demand-mono, demand-more}
 use Rattle.search.specs.declared.response.Count.{Count}
 use Rattle.search.specs.Counts.{once, Started}
 use Rattle.search.proofs.CountLaws.{started-same, started-next, started-harder}
 use Rattle.table.specs.Tasks.{limit_of}
 use Rattle.table.specs.declared.accesses.Access.{Access}
-use Rattle.table.specs.Accesses.{may_block, blocking, or_else, added_by, empty_access, blank_access}
+use Rattle.table.specs.Accesses.{blocking, added_by, empty_access}
 use Rattle.table.specs.declared.Table.{Table}
 use Rattle.table.specs.Tables.{ways_in, at, accesses_of}
 use Rattle.table.specs.Accepted.{AcceptedTable}
@@ -29,12 +28,12 @@ use Rattle.analysis.specs.Costs.{reloads_of, reloads_with, ucb_of, ecb_of, term_
 use Rattle.analysis.proofs.OrderLaws.{ucb-union-with, ecb-union-with, term-ranged}
 use Rattle.analysis.specs.declared.carried.Column.{Column}
 use Rattle.analysis.specs.declared.carried.Terms.{Terms}
-use Rattle.analysis.specs.Carried.{terms_for, Long, Ledger, Weighed, WeighedUnder}
+use Rattle.analysis.specs.Carried.{terms_for, FullTerms, Ledger, Weighed, WeighedUnder}
 use Rattle.analysis.proofs.TermLaws.{has-none, joined}
-use Rattle.analysis.proofs.AnswerLaws.{by_one, From, blocking-same, from-first, from-plain, from-yes, from-no, from-again, from-all, plain-blocks}
-use Rattle.analysis.specs.Analysis.{least_under, answer_of, response_of, Blocks, OneBlocks}
+use Rattle.analysis.specs.Analysis.{blockers_of, least_under, counted_response, response_of, MayBlock, OneInFront}
+use Rattle.analysis.proofs.BlockerLaws.{none-in-front, latest-in-front, every-in-front, plain-blocks, blockers-block}
 use Rattle.analysis.specs.declared.rows.Answers.{Answers}
-use Rattle.analysis.specs.Rows.{answer_in, Answered, cheaper, Rising, WithOne, row_told, plain_of, Left, row_of}
+use Rattle.analysis.specs.Rows.{answer_in, Answered, cheaper, NoneSoonerThanCheaper, WithOne, row_told, plain_of, CarriedCounts, row_of}
 
 -- ---- a cheaper method asks for no more
 
@@ -77,14 +76,14 @@ module _ (table : Table) (a : Access) (i : ℕ) (accepted : AcceptedTable table)
 
   -- ---- by the terms of the row
 
-  module _ (blocks : Blocks i a) (r : Terms) (weighed : WeighedUnder table a i r) where
+  module _ (blocks : MayBlock a i) (r : Terms) (weighed : WeighedUnder table a i r) where
     long : (m : Single) → length (take i (terms_for m r)) ≡ i
     long m = length-take-le i (terms_for m r) (omega (arith, weighed.long.each m, accepted.few))
 
     term-at : (m : Single) (j : ℕ) → j < i → term_in (take i (terms_for m r)) j ≡ term_under table a m i j
     term-at m j l = get_or-take i (terms_for m r) j (term_of 0 0 0) l ∙ weighed.terms.each m j zero-le l
 
-    pub row-handed : (m : Single) → Handed ((at table i).work.0 + a.lasts.0) (take i (terms_for m r)) (limit_of (at table i))
+    pub row-handed : (m : Single) → NoOverflow ((at table i).work.0 + a.lasts.0) (take i (terms_for m r)) (limit_of (at table i))
     row-handed m =
         let q = accepted.tasks i here in
         record {
@@ -123,7 +122,7 @@ module _ (table : Table) (a : Access) (i : ℕ) (accepted : AcceptedTable table)
     pub next : (m : Single) {counts : List Count} → HandedTo (cheaper m) counts → HandedTo m counts
     next m p = started-in m (started-after m _ (started-out (cheaper m) p))
 
-    module _ (s : Answers) (rising : Rising s) where
+    module _ (s : Answers) (rising : NoneSoonerThanCheaper s) where
       -- where a cheaper method has none there is none
       pub dearer : (m : Single) (known : Response) → known ≡ later (answer_in (cheaper m) s) (found (cheaper m)) → known ≡ Unschedulable
           → Unschedulable ≡ later (answer_in m s) (found m)
@@ -144,7 +143,7 @@ module _ (table : Table) (a : Access) (i : ℕ) (accepted : AcceptedTable table)
           go EcbUnion = p4 ∙ ap (later s.ecb_union) (row-answer EcbUnion)
 
   -- with one access more the answers still rise
-  pub rising-next : (s t : Answers) → Rising s → WithOne table a i s t → Rising t
+  pub rising-next : (s t : Answers) → NoneSoonerThanCheaper s → WithOne table a i s t → NoneSoonerThanCheaper t
   rising-next s t p w = record {
     each = λ m. rw (w.each (cheaper m), w.each m) (later-mono _ _ _ _ (p.each m) (no-later m (limit_of (at table i))));
   }
@@ -168,7 +167,7 @@ first-is UcbOnly = refl
 first-is UcbUnion = refl
 first-is EcbUnion = refl
 
-pub rising-first : Rising first_answers
+pub rising-first : NoneSoonerThanCheaper first_answers
 unfolding NoLater
 rising-first = record { each = λ m. rw (first-is (cheaper m), first-is m) (omega arith) }
 
@@ -190,9 +189,9 @@ module _ (table : Table) (i : ℕ) (accepted : AcceptedTable table) (here : i < 
   under-none : WeighedUnder table empty_access i r
   under-none = weighed-plain table empty_access i r refl weighed
 
-  pub plain-handed : Handed (at table i).work.0 (take i r.none) (limit_of (at table i))
+  pub plain-handed : NoOverflow (at table i).work.0 (take i r.none) (limit_of (at table i))
   plain-handed =
-      subst (λ (own : ℕ). Handed own (take i r.none) (limit_of (at table i))) alone (row-handed table empty_access i accepted here (plain-blocks i) r under-none None)
+      subst (λ (own : ℕ). NoOverflow own (take i r.none) (limit_of (at table i))) alone (row-handed table empty_access i accepted here (plain-blocks i) r under-none None)
 
   module _ {counts : List Count} where
     pub plain-first : Started (at table i).work.0 (plain_of table) i counts → Started (at table i).work.0 (term_in (take i r.none)) (length (take i r.none)) counts
@@ -206,47 +205,36 @@ module _ (table : Table) (i : ℕ) (accepted : AcceptedTable table) (here : i < 
         (left table empty_access i accepted here (plain-blocks i) r under-none
         (subst (λ (own : ℕ). Started own (term_in (take i r.none)) (length (take i r.none)) counts) (sym alone) p))
 
--- the longest so far of the first n accesses that may block
-abbrev pub LongestOf : Table → ℕ → ℕ → ℕ → Option ℕ → Type 0
-LongestOf table i n most (Some k) = (k < n) × (may_block i (get_or table.accesses k blank_access) ≡ true)
-LongestOf table i n most NoPlace = (most ≡ 0) × (blocking i (take n table.accesses) ≡ [])
+-- the answers so far, and what may block the task and is left: going on from here gives its answers
+pub record Passed (table : Table) (i : ℕ) (s : Answers) (rest : List Access) : Type 0 where
+  pub answers : (m : Single) → fold later (answer_in m s) (map (λ a. least_under table a m i (limit_of (at table i))) rest) ≡ counted_response table m i
+  pub block : Every (λ a. MayBlock a i) rest
+  pub rising : NoneSoonerThanCheaper s
 
--- after the first n accesses, and one that was taken before: the answers over those that may block
-pub record Passed (table : Table) (i first n : ℕ) (s : Answers) : Type 0 where
-  pub over : (m : Single) → From table i m first n (answer_in m s)
-  pub rising : Rising s
+module _ (table : Table) (i : ℕ) (accepted : AcceptedTable table) (here : i < table.count) where
+  pub passed-first : {list : List Access} → OneInFront (blockers_of table i) list → Passed table i first_answers list
+  unfolding counted_response
+  passed-first p = record {
+    answers = λ m. rw (first-is m) (latest-in-front (λ a. least_under table a m i (limit_of (at table i))) p);
+    block = every-in-front (λ a. MayBlock a i) p (blockers-block table i accepted);
+    rising = rising-first;
+  }
 
-module _ (table : Table) (i : ℕ) (accepted : AcceptedTable table) where
-  within : (n : ℕ) → n < table.access_count → n < length table.accesses
-  within n few = omega (arith, accepted.listed, few)
+  pub passed-next : (a : Access) (l : List Access) {s t : Answers} → Passed table i s (a ∷ l) → WithOne table a i s t → Passed table i t l
+  passed-next a l p w = record {
+    answers = λ m. rw (w.each m) (p.answers m);
+    block = p.block.1;
+    rising = rising-next table a i accepted here _ _ p.rising w;
+  }
 
-  module _ (here : i < table.count) where
-    pub passed-first : (first : ℕ) {s : Answers} → WithOne table (get_or table.accesses first blank_access) i first_answers s → Passed table i first 0 s
-    passed-first first w = record {
-      over = λ m. from-first table i m first (rw (first-is m) at (w.each m));
-      rising = rising-next table _ i accepted here _ _ rising-first w;
-    }
+  pub passed-all : {s : Answers} → Passed table i s [] → Answered table i s
+  passed-all p = record { each = p.answers }
 
-    module _ (first n : ℕ) (few : n < table.access_count) {s : Answers} (p : Passed table i first n s) where
-      pub passed-yes : may_block i (get_or table.accesses n blank_access) ≡ true → {t : Answers}
-          → WithOne table (get_or table.accesses n blank_access) i s t → Passed table i first (n + 1) t
-      passed-yes e w = record {
-        over = λ m. from-yes table i m accepted first n few (p.over m) e (w.each m);
-        rising = rising-next table _ i accepted here _ _ p.rising w;
-      }
-
-      pub passed-no : may_block i (get_or table.accesses n blank_access) ≡ false → Passed table i first (n + 1) s
-      passed-no e = record { over = λ m. from-no table i m accepted first n few (p.over m) e; rising = p.rising }
-
-      pub passed-again : may_block i (get_or table.accesses n blank_access) ≡ true → n ≡ first → Passed table i first (n + 1) s
-      passed-again e same = record { over = λ m. from-again table i m accepted first n few (p.over m) e same; rising = p.rising }
-
-    pub answered-all : (first : ℕ) {s : Answers} → first < table.access_count → may_block i (get_or table.accesses first blank_access) ≡ true
-        → Passed table i first table.access_count s → Answered table i s
-    answered-all first h e p = record { each = λ m. from-all table i m accepted first h e (p.over m) }
-
-  pub answered-plain : blocking i (accesses_of table) ≡ [] → {r : Answers} → WithOne table empty_access i first_answers r → Answered table i r
-  answered-plain e w = record { each = λ m. from-plain table i m e (rw (first-is m) at (w.each m)) }
+  -- in a table without accesses
+  pub answered-plain : table.access_count ≡ 0 → {r : Answers} → WithOne table empty_access i first_answers r → Answered table i r
+  answered-plain e w =
+      let none : blocking i (accesses_of table) ≡ [] = ap (λ (n : ℕ). blocking i (take n table.accesses)) e in
+      passed-all (passed-next empty_access [] (passed-first (none-in-front empty_access (accesses_of table) i none)) w)
 
 -- ---- on from the task above
 
@@ -255,11 +243,8 @@ unfolding reloads_of
 none-at table i r p j l = p.terms.each None j zero-le l
 
 module _ (table : Table) (i : ℕ) (accepted : AcceptedTable table) (here : i < table.count) where
-  pub none-ranged : (r : Terms) → Weighed table i r → (j : ℕ) → j < i → InRange (term_in r.none j)
-  none-ranged r p j l = rw (none-at table i r p j l) (plain-ranged table i accepted here j l)
-
   -- the work of the task above is all that it asks for
-  pub carried_on : (counts : List Count) (c : Count) (k : ℕ) → i ≡ k + 1 → c ≡ once (plain_of table k) → Left table i counts
+  pub carried_on : (counts : List Count) (c : Count) (k : ℕ) → i ≡ k + 1 → c ≡ once (plain_of table k) → CarriedCounts table i counts
       → Started (at table i).work.0 (plain_of table) i (set counts k c)
   carried_on counts c k e is left =
       let q = accepted.tasks i here in
@@ -282,20 +267,20 @@ row-is table i s r p e =
     ap (λ (rs : List Response). record { responses = rs }) (e ∙ cc)
 
 -- before the first row
-pub left-none : (table : Table) (counts : List Count) → length counts ≡ 32 → Left table 0 counts
+pub left-none : (table : Table) (counts : List Count) → length counts ≡ 32 → CarriedCounts table 0 counts
 left-none table counts h = record { long = h; above = λ k e. absurd (omega arith) }
 
 pub left-next : (table : Table) (i : ℕ) (counts : List Count) → length counts ≡ 32 → Started (at table i).work.0 (plain_of table) i counts
-    → Left table (i + 1) counts
+    → CarriedCounts table (i + 1) counts
 left-next table i counts h p = record {
   long = h;
   above = λ k e. let same : k ≡ i = omega arith in rw same p;
 }
 
-pub ledger-none : (table : Table) (l : List Column) → length l ≡ 32 → Ledger table 0 l
+pub ledger-none : (table : Table) (l : List Column) → table.count ≤ length l → Ledger table 0 l
 ledger-none table l h = record { long = h; columns = λ j b. absurd (omega arith) }
 
-pub long-none : (r : Terms) → length r.none ≡ 32 → length r.ecb_only ≡ 32 → length r.ucb_only ≡ 32 → length r.ucb_union ≡ 32 → length r.ecb_union ≡ 32 → Long r
+pub long-none : (r : Terms) → length r.none ≡ 32 → length r.ecb_only ≡ 32 → length r.ucb_only ≡ 32 → length r.ucb_union ≡ 32 → length r.ecb_union ≡ 32 → FullTerms r
 long-none r a b c d e = record { each = go }
   where
     go : (m : Single) → length (terms_for m r) ≡ 32

@@ -33,7 +33,7 @@ use Rattle.analysis.specs.declared.need.Need.{Need}
 use Rattle.analysis.specs.Needs.{is_sooner, need_with, larger_need, largest_need, needed_of, need_of}
 use Rattle.analysis.specs.declared.Method.{Method}
 use Rattle.analysis.specs.declared.Method.TheVariants.{Of, Combined}
-use Rattle.analysis.specs.Analysis.{blockers_of, least_under, answer_of, response_of}
+use Rattle.analysis.specs.Analysis.{blockers_of, least_under, counted_response, response_of}
 use Rattle.analysis.proofs.CostLaws.{with_none}
 use Rattle.analysis.proofs.HitLaws.{larger-count, first-largest}
 
@@ -215,8 +215,8 @@ module _ (i : ℕ) (first second : Table) (same : SameDownTo i first second) whe
       pairwise-or Alike empty_access empty_access (blocking i (accesses_of first)) (blocking i (accesses_of second)) refl
       (pairwise-maps unowned unowned (blocking i (accesses_of first)) (blocking i (accesses_of second)) same.accesses)
 
-  answer-same : (m : Single) → answer_of first m i ≡ answer_of second m i
-  unfolding answer_of
+  answer-same : (m : Single) → counted_response first m i ≡ counted_response second m i
+  unfolding counted_response
   answer-same m =
       let A : Access → Response = λ a. least_under first a m i (limit_of (at first i)) in
       let B : Access → Response = λ b. least_under second b m i (limit_of (at second i)) in

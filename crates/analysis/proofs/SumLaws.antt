@@ -1,5 +1,5 @@
 -- A sum that is capped, over one position more, at either end.
-use Rattle.std.proofs.Common.{ℕ, ◌+◌, ◌≤◌, ◌<◌, arith, ◌≡◌, refl, sym, ap, ap₂, ◌∙◌}
+use Rattle.std.proofs.Common.{ℕ, ◌+◌, ◌≤◌, ◌<◌, arith, ◌≡◌, refl, sym, ap, ◌∙◌}
 use Rattle.std.proofs.Math.Path.{fun_ext}
 use Rattle.cache.specs.Counts.{Counts, nothing, ◌⊕◌, capped}
 use Rattle.cache.proofs.CountLaws.{capped_left, add_comm, add_assoc}

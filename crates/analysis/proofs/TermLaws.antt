@@ -11,20 +11,20 @@ use Rattle.analysis.specs.declared.costs.Charge.{Charge}
 use Rattle.analysis.specs.Costs.{reloads_in, reloads_of, reloads_with, term_with, term_at, term_under}
 use Rattle.analysis.proofs.CostLaws.{charge-past}
 use Rattle.analysis.specs.declared.carried.Terms.{Terms}
-use Rattle.analysis.specs.Carried.{terms_for, Long, TermPut, HasTerms, WeighedUnder}
+use Rattle.analysis.specs.Carried.{terms_for, FullTerms, TermPut, HasTerms, WeighedUnder}
 
 module _ {j : ℕ} {v : Single → Term} {x y : Terms} (p : TermPut j v x y) where
-  pub put-long : Long x → Long y
+  pub put-long : FullTerms x → FullTerms y
   put-long long = record { each = λ m. rw (p.each m) (length-set (terms_for m x) j (v m) ∙ long.each m) }
 
-  put-same : Long x → j < 32 → (m : Single) → term_in (terms_for m y) j ≡ v m
+  put-same : FullTerms x → j < 32 → (m : Single) → term_in (terms_for m y) j ≡ v m
   put-same long few m = rw (p.each m) (get_or-set_same (terms_for m x) j (v m) (term_of 0 0 0) (omega (arith, long.each m)))
 
   put-other : (m : Single) (k : ℕ) → (k ≡ j → ⊥) → term_in (terms_for m y) k ≡ term_in (terms_for m x) k
   put-other m k n = rw (p.each m) (get_or-set_other (terms_for m x) j k (v m) (term_of 0 0 0) n)
 
   -- one more
-  pub has-next : {w : Single → ℕ → Term} → Long x → j < 32 → ((m : Single) → v m ≡ w m j) → HasTerms w 0 j x → HasTerms w 0 (j + 1) y
+  pub has-next : {w : Single → ℕ → Term} → FullTerms x → j < 32 → ((m : Single) → v m ≡ w m j) → HasTerms w 0 j x → HasTerms w 0 (j + 1) y
   has-next {w} long few e h = record {
     each = λ m k a b. below_more (λ k. term_in (terms_for m y) k ≡ w m k) j
         (λ k b. put-other m k (λ z. omega arith) ∙ h.each m k zero-le b) (put-same long few m ∙ e m) k b;
@@ -42,7 +42,7 @@ pub term-past : (table : Table) (a : Access) (m : Single) (i j : ℕ) → a.ceil
 unfolding reloads_of reloads_with
 term-past table a m i j past = ap (λ (g : Charge). term_with table j (reloads_in g)) (charge-past table a m i j past)
 
-pub joined : (table : Table) (a : Access) (i j : ℕ) (r : Terms) → a.ceiling ≤ j → Long r → HasTerms (λ m j. term_under table a m i j) 0 j r
+pub joined : (table : Table) (a : Access) (i j : ℕ) (r : Terms) → a.ceiling ≤ j → FullTerms r → HasTerms (λ m j. term_under table a m i j) 0 j r
     → HasTerms (λ m j. term_at table m i j) j i r → WeighedUnder table a i r
 joined table a i j r past long h q = record {
   long = long;

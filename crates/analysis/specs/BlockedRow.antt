@@ -6,11 +6,11 @@ use Rattle.table.specs.declared.Table.{Table}
 use Rattle.analysis.specs.declared.costs.Single.{Single}
 use Rattle.analysis.specs.declared.costs.Charge.{Charge}
 use Rattle.analysis.specs.Costs.{reloads_in, charge_under, term_with}
-use Rattle.analysis.specs.Row.{charge_in, Tells}
+use Rattle.analysis.specs.Row.{charge_in, HoldsCharges}
 
 -- a list that has the charges from the position `from` on, while the access blocks i
 abbrev pub ChargedUnder : Table → Access → Single → ℕ → ℕ → List Charge → Type 0
-ChargedUnder table a m i = Tells (charge_under table a m i) i
+ChargedUnder table a m i = HoldsCharges (charge_under table a m i) i
 
 -- a row whose counts a product by the block reload time may have
 pub record FewReloads (i : ℕ) (row : List Charge) : Type 0 where

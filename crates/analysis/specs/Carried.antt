@@ -67,7 +67,7 @@ count_told n UcbOnly = n.ucb_only.0
 count_told n UcbUnion = n.ucb_union.0
 count_told n EcbUnion = n.ecb_union.0
 
-pub record Few (n : Counted) : Type 0 where
+pub record FewReloadsCounted (n : Counted) : Type 0 where
   pub ecb_only : n.ecb_only.0 ≤ 2048
   pub ucb_only : n.ucb_only.0 ≤ 2048
   pub ucb_union : n.ucb_union.0 ≤ 2048
@@ -82,12 +82,12 @@ column_in ledger j = slice_index_or ledger j no_column
 
 -- the ledger before row i: a column for each task above it
 pub record Ledger (table : Table) (i : ℕ) (ledger : List Column) : Type 0 where
-  pub long : length ledger ≡ 32
+  pub long : table.count ≤ length ledger
   pub columns : (j : ℕ) → j < i → ColumnOf table j i (column_in ledger j)
 
 -- inside row i: the columns before j are carried past it, the others down to it
-pub record Passing (table : Table) (i j : ℕ) (ledger : List Column) : Type 0 where
-  pub long : length ledger ≡ 32
+pub record LedgerInRow (table : Table) (i j : ℕ) (ledger : List Column) : Type 0 where
+  pub long : table.count ≤ length ledger
   pub past : (k : ℕ) → k < j → ColumnOf table k (i + 1) (column_in ledger k)
   pub ahead : (k : ℕ) → j ≤ k → k < i → ColumnOf table k i (column_in ledger k)
 
@@ -101,7 +101,7 @@ terms_for UcbOnly r = r.ucb_only
 terms_for UcbUnion r = r.ucb_union
 terms_for EcbUnion r = r.ecb_union
 
-pub record Long (r : Terms) : Type 0 where
+pub record FullTerms (r : Terms) : Type 0 where
   pub each : (m : Single) → length (terms_for m r) ≡ 32
 
 -- under each method one term put in
@@ -114,11 +114,11 @@ pub record HasTerms (w : Single → ℕ → Term) (a b : ℕ) (r : Terms) : Type
 
 -- those of row i that the table gives, and while an access blocks i
 pub record Weighed (table : Table) (i : ℕ) (r : Terms) : Type 0 where
-  pub long : Long r
+  pub long : FullTerms r
   pub terms : HasTerms (λ m j. term_at table m i j) 0 i r
 
 pub record WeighedUnder (table : Table) (a : Access) (i : ℕ) (r : Terms) : Type 0 where
-  pub long : Long r
+  pub long : FullTerms r
   pub terms : HasTerms (λ m j. term_under table a m i j) 0 i r
 
 -- the terms of row i, and the ledger carried past it

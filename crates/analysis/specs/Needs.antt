@@ -1,11 +1,12 @@
 -- What a task needs, whatever its limit is, the method under which that is explained, and what blocks the task then.
-use Rattle.std.specs.Prelude.{ℕ, ◌-◌, ◌<◌, ◌≡◌, Bool, true, false, List, map, if◌then◌else◌, nat_lt, slice_index_or, fold}
+use Rattle.std.specs.Prelude.{ℕ, ◌-◌, Bool, true, false, List, map, if◌then◌else◌, nat_lt, slice_index_or, fold}
 use Rattle.cache.specs.declared.units.Ticks.{Ticks}
 use Rattle.search.specs.declared.demand.Response.{Response}
 use Rattle.search.specs.declared.demand.Response.TheVariants.{Within, Unschedulable}
 use Rattle.table.specs.declared.accesses.Access.{Access}
-use Rattle.table.specs.Accesses.{may_block, blank_access}
+use Rattle.table.specs.Accesses.{blank_access}
 use Rattle.table.specs.declared.Table.{Table}
+use Rattle.table.specs.Tables.{access_at}
 use Rattle.analysis.specs.declared.costs.Single.{Single}
 use Rattle.analysis.specs.declared.costs.Single.TheVariants.{UcbUnion, EcbUnion}
 use Rattle.analysis.specs.declared.Method.{Method}
@@ -47,13 +48,9 @@ need_of table Combined i = smaller_of (needed_of table UcbUnion i) (needed_of ta
 
 -- ---- how it is found
 
--- where an access stands that may block the task at i
-abbrev pub MayBlockAt : Table → ℕ → ℕ → Type 0
-MayBlockAt table i k = (k < table.access_count) × (may_block i (slice_index_or table.accesses k blank_access) ≡ true)
-
--- what is needed while that one blocks
+-- what is needed while the access at k blocks
 abbrev pub need_at : Table → Single → ℕ → ℕ → Response
-need_at table m i k = least_under table (slice_index_or table.accesses k blank_access) m i 250000000
+need_at table m i k = least_under table (access_at table k) m i 250000000
 
 -- the time before another, and one that is known where the other is beyond
 abbrev pub just_before : Response → Ticks → Response

@@ -1,6 +1,6 @@
 -- The answers for all tasks of a table.
 use Rattle.std.specs.Prelude.{ℕ, ◌+◌, ◌≡◌, ◌<◌, true, List, [], ◌∷◌, map, replicate, length}
-use Rattle.search.specs.declared.demand.Row.{Row}
+use Rattle.analysis.specs.declared.rows.Row.{Row}
 use Rattle.search.specs.declared.demand.Term.{Term}
 use Rattle.search.specs.declared.demand.Response.{Response}
 use Rattle.search.specs.declared.demand.Response.TheVariants.{Unschedulable}
@@ -14,7 +14,7 @@ use Rattle.table.specs.Tables.{at}
 use Rattle.analysis.specs.declared.costs.Single.{Single}
 use Rattle.analysis.specs.declared.costs.Single.TheVariants.{None, EcbOnly, UcbOnly, UcbUnion, EcbUnion}
 use Rattle.analysis.specs.Costs.{term_with}
-use Rattle.analysis.specs.Analysis.{methods, least_under, answer_of, response_of}
+use Rattle.analysis.specs.Analysis.{methods, least_under, counted_response, response_of}
 use Rattle.analysis.specs.declared.rows.Answers.{Answers}
 
 -- the responses of the task at i under each method; and a row without a response, which stands past the last task
@@ -35,7 +35,7 @@ answer_in EcbUnion s = s.ecb_union
 
 -- those of the task at i
 pub record Answered (table : Table) (i : ℕ) (s : Answers) : Type 0 where
-  pub each : (m : Single) → answer_in m s ≡ answer_of table m i
+  pub each : (m : Single) → answer_in m s ≡ counted_response table m i
 
 -- the method from which one goes on, which never asks for more
 abbrev pub cheaper : Single → Single
@@ -46,7 +46,7 @@ cheaper UcbUnion = None
 cheaper EcbUnion = None
 
 -- no answer is sooner than that of the cheaper method
-pub record Rising (s : Answers) : Type 0 where
+pub record NoneSoonerThanCheaper (s : Answers) : Type 0 where
   pub each : (m : Single) → NoLater (answer_in (cheaper m) s) (answer_in m s)
 
 -- the later of these answers and of those while an access blocks the task at i
@@ -64,6 +64,6 @@ abbrev pub plain_of : Table → ℕ → Term
 plain_of table j = term_with table j 0
 
 -- what the search for the task above i leaves
-pub record Left (table : Table) (i : ℕ) (counts : List Count) : Type 0 where
+pub record CarriedCounts (table : Table) (i : ℕ) (counts : List Count) : Type 0 where
   pub long : length counts ≡ 32
   pub above : (k : ℕ) → i ≡ k + 1 → Started (at table k).work.0 (plain_of table) k counts

@@ -8,9 +8,8 @@ ghost use Rattle.cache.specs.Levels.{counts};
 ghost use Rattle.table.specs.Accesses.{added_by};
 ghost use Rattle.search.specs.Positions.{front};
 ghost use Rattle.search.specs.Demand.{term_of};
-ghost use Rattle.table.specs.Accepted.{AcceptedTable};
 ghost use Rattle.analysis.specs.declared.costs.Single.TheVariants.{UcbOnly, UcbUnion, EcbUnion};
-ghost use Rattle.analysis.specs.Row.{Charged, Begun};
+ghost use Rattle.analysis.specs.Row.{Charged, ReadyToJoin};
 ghost use Rattle.analysis.specs.BlockedRow.{ChargedUnder, FewReloads, term_by};
 
 use crate::costs::{Charge, Hit, Single};
@@ -19,16 +18,16 @@ use cache::sets::CacheSet;
 use cache::units::{Reloads, Ticks};
 use cache::useful::Useful;
 use search::demand::Term;
-use table::Table;
+use table::accepted::Pending;
 use table::accesses::Access;
 
 // UCB-only: the larger of what is there and the access's UCB.
-fn ucb_only(table: &Table, i: usize, access: &Access, row: &mut [Charge; 32])
-    requires { (access.now.ceiling ≤ i) × AcceptedTable table.now × (i < table.now.count) × Charged table.now UcbOnly i 0 row.old }
-    ensures { ChargedUnder table.now access.now UcbOnly i 0 row.new }
+fn ucb_only(pending: Pending, access: &Access, row: &mut [Charge; 32])
+    requires { (access.now.ceiling ≤ pending.i) × Charged pending.table.now UcbOnly pending.i 0 row.old }
+    ensures { ChargedUnder pending.entry.table.now access.now UcbOnly pending.entry.i 0 row.new }
 {
     let added = Hit {
-        reloads: access.ucb.size(table.ways()),
+        reloads: access.ucb.size(pending.table.ways()),
         victim: access.task,
     };
     for j in (0..access.ceiling).rev() {
@@ -50,26 +49,26 @@ fn shared_with(all: &Useful, access: &Access, j: usize, ecb: CacheSet, ways: u64
 }
 
 // UCB-Union: the useful blocks of all are carried up, and the access's are put to them above its ceiling.
-fn ucb_union(table: &Table, i: usize, access: &Access, row: &mut [Charge; 32])
-    requires { AcceptedTable table.now × (i < table.now.count) × (length row.old ≡ 32) }
-    ensures { ChargedUnder table.now access.now UcbUnion i 0 row.new }
+fn ucb_union(pending: Pending, access: &Access, row: &mut [Charge; 32])
+    requires { length row.old ≡ 32 }
+    ensures { ChargedUnder pending.entry.table.now access.now UcbUnion pending.entry.i 0 row.new }
 {
-    let ways = table.ways();
+    let ways = pending.table.ways();
     let mut all = Useful::NONE;
-    for j in (0..i).rev() {
-        all.join(&table.task(j + 1).ucb, ways);
-        row[j] = Charge::NoVictim(shared_with(&all, access, j, table.task(j).ecb, ways));
+    for j in (0..pending.i).rev() {
+        all.join(&pending.table.task(j + 1).ucb, ways);
+        row[j] = Charge::NoVictim(shared_with(&all, access, j, pending.table.task(j).ecb, ways));
     }
 }
 
 // ECB-Union: the larger of what is there and what the access's UCB shares with the ECBs.
-fn ecb_union(table: &Table, i: usize, access: &Access, row: &mut [Charge; 32])
-    requires { (access.now.ceiling ≤ i) × AcceptedTable table.now × (i < table.now.count) × Charged table.now EcbUnion i 0 row.old }
-    ensures { ChargedUnder table.now access.now EcbUnion i 0 row.new }
+fn ecb_union(pending: Pending, access: &Access, row: &mut [Charge; 32])
+    requires { (access.now.ceiling ≤ pending.i) × Charged pending.table.now EcbUnion pending.i 0 row.old }
+    ensures { ChargedUnder pending.entry.table.now access.now EcbUnion pending.entry.i 0 row.new }
 {
-    let unions = one_row::evictors(table, i);
+    let unions = one_row::evictors(pending);
     for j in (0..access.ceiling).rev() {
-        let shared = access.ucb.size_in(unions[j], table.ways());
+        let shared = access.ucb.size_in(unions[j], pending.table.ways());
         let added = Hit {
             reloads: shared,
             victim: access.task,
@@ -79,26 +78,26 @@ fn ecb_union(table: &Table, i: usize, access: &Access, row: &mut [Charge; 32])
 }
 
 // Makes a row of charges without the access one with it. No reloads and ECB-Only do not depend on who is affected.
-pub fn join(table: &Table, method: Single, i: usize, access: &Access, row: &mut [Charge; 32])
-    requires { (access.now.ceiling ≤ i) × AcceptedTable table.now × (i < table.now.count) × Begun table.now method i row.old }
-    ensures { ChargedUnder table.now access.now method i 0 row.new }
+pub fn join(pending: Pending, method: Single, access: &Access, row: &mut [Charge; 32])
+    requires { (access.now.ceiling ≤ pending.i) × ReadyToJoin pending.table.now method pending.i row.old }
+    ensures { ChargedUnder pending.entry.table.now access.now method pending.entry.i 0 row.new }
 {
     match method {
         Single::None | Single::EcbOnly => {}
-        Single::UcbOnly => ucb_only(table, i, access, row),
-        Single::UcbUnion => ucb_union(table, i, access, row),
-        Single::EcbUnion => ecb_union(table, i, access, row),
+        Single::UcbOnly => ucb_only(pending, access, row),
+        Single::UcbUnion => ucb_union(pending, access, row),
+        Single::EcbUnion => ecb_union(pending, access, row),
     }
 }
 
 // What each task above i asks for, by the charges in a row.
-pub fn terms(table: &Table, i: usize, row: &[Charge; 32]) -> [Term; 32]
-    requires { AcceptedTable table.now × (i < table.now.count) × FewReloads i row.now }
-    ensures { result ≡ front (term_of 0 0 0) (term_by table.now row.now) i }
+pub fn terms(pending: Pending, row: &[Charge; 32]) -> [Term; 32]
+    requires { FewReloads pending.i row.now }
+    ensures { result ≡ front (term_of 0 0 0) (term_by pending.entry.table.now row.now) pending.entry.i }
 {
     let mut terms = [Term::NONE; 32];
-    for j in 0..i {
-        terms[j] = costs::term(table, j, row[j].count());
+    for j in 0..pending.i {
+        terms[j] = costs::term(pending, j, row[j].count());
     }
     terms
 }

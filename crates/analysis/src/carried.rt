@@ -7,11 +7,10 @@ ghost use Rattle.cache.specs.Counts.{◌on◌, total};
 ghost use Rattle.cache.specs.Levels.{counts};
 ghost use Rattle.table.specs.Tables.{ways_in};
 ghost use Rattle.search.specs.Positions.{hp};
-ghost use Rattle.table.specs.Accepted.{AcceptedTable};
 ghost use Rattle.analysis.specs.declared.costs.Single.{Single};
 ghost use Rattle.analysis.specs.Gather.{union_of, hit, larger_of};
 ghost use Rattle.analysis.specs.Costs.{term_with, ecb_of};
-ghost use Rattle.analysis.specs.Carried.{Next, Small, Few, count_told, count_of, count_with, Passing, Ledger, Long, TermPut, Weighed, WeighedUnder, RowWeighed};
+ghost use Rattle.analysis.specs.Carried.{Next, Small, FewReloadsCounted, count_told, count_of, count_with, LedgerInRow, Ledger, FullTerms, TermPut, Weighed, WeighedUnder, RowWeighed};
 
 use crate::costs;
 use crate::costs::{Hit, term};
@@ -19,7 +18,7 @@ use cache::sets::CacheSet;
 use cache::units::Reloads;
 use cache::useful::Useful;
 use search::demand::Term;
-use table::Table;
+use table::accepted::Pending;
 use table::accesses::Access;
 
 // What is gathered for a task over the positions below it, down to a row: the largest UCB, the useful blocks of all, and the most that one UCB shares with
@@ -64,7 +63,7 @@ impl Column {
         requires few { ways ≤ 8 }
         requires small { Small self.now }
         ensures each { (m : Single) → count_told result m ≡ count_of ways (members ecb) self.now m }
-        ensures few { Few result }
+        ensures few { FewReloadsCounted result }
     {
         Counted {
             ecb_only: self.evicting,
@@ -79,7 +78,7 @@ impl Column {
         requires useful { (ways ≤ 8) × (useful.reloads.0 ≡ total (counts ways ucb.now)) }
         requires small { Small self.now }
         ensures each { (m : Single) → count_told result m ≡ count_with ways (members ecb) self.now (counts ways ucb.now) useful.victim m }
-        ensures few { Few result }
+        ensures few { FewReloadsCounted result }
     {
         Counted {
             ecb_only: self.evicting,
@@ -135,38 +134,38 @@ struct Counted {
 }
 
 // Puts in the terms of the task at j, with so many reloads.
-fn put(terms: &mut Terms, table: &Table, j: usize, counted: Counted)
-    requires { AcceptedTable table.now × (j < table.now.count) × Few counted × Long terms.old }
-    ensures { TermPut j (λ m. term_with table.now j (count_told counted m)) terms.old terms.new }
+fn put(terms: &mut Terms, pending: Pending, j: usize, counted: Counted)
+    requires { (j < pending.i) × FewReloadsCounted counted × FullTerms terms.old }
+    ensures { TermPut j (λ m. term_with pending.entry.table.now j (count_told counted m)) terms.old terms.new }
 {
-    terms.none[j] = term(table, j, Reloads(0));
-    terms.ecb_only[j] = term(table, j, counted.ecb_only);
-    terms.ucb_only[j] = term(table, j, counted.ucb_only);
-    terms.ucb_union[j] = term(table, j, counted.ucb_union);
-    terms.ecb_union[j] = term(table, j, counted.ecb_union);
+    terms.none[j] = term(pending, j, Reloads(0));
+    terms.ecb_only[j] = term(pending, j, counted.ecb_only);
+    terms.ucb_only[j] = term(pending, j, counted.ucb_only);
+    terms.ucb_union[j] = term(pending, j, counted.ucb_union);
+    terms.ecb_union[j] = term(pending, j, counted.ecb_union);
 }
 
 // The union of the ECBs down to that of the task at i: the one in the column above, with one set more.
-fn ecbs_down_to(table: &Table, i: usize, ledger: &[Column; 32]) -> CacheSet
-    requires { AcceptedTable table.now × (i < table.now.count) × Passing table.now i i ledger.now }
-    ensures { members result ≡ union_of (ecb_of table.now) (hp (i + 1)) }
+fn ecbs_down_to(pending: Pending, ledger: &[Column]) -> CacheSet
+    requires { LedgerInRow pending.table.now pending.i pending.i ledger.now }
+    ensures { members result ≡ union_of (ecb_of pending.entry.table.now) (hp (pending.entry.i + 1)) }
 {
-    let own = table.task(i).ecb;
-    if i == 0 {
+    let own = pending.task().ecb;
+    if pending.i == 0 {
         return own;
     }
-    ledger[i - 1].above.union(own)
+    ledger[pending.i - 1].above.union(own)
 }
 
 // Adds the column of the task at i, below all that have one.
-fn add_column(table: &Table, i: usize, ledger: &mut [Column; 32])
-    requires { AcceptedTable table.now × (i < table.now.count) × Passing table.now i i ledger.old }
-    ensures { Ledger table.now (i + 1) ledger.new }
+fn add_column(pending: Pending, ledger: &mut [Column])
+    requires { LedgerInRow pending.table.now pending.i pending.i ledger.old }
+    ensures { Ledger pending.entry.table.now (pending.entry.i + 1) ledger.new }
 {
-    let above = ecbs_down_to(table, i, ledger);
-    let evicting = costs::cleared(table, i);
-    let nobody = Hit::none(i + 1);
-    ledger[i] = Column {
+    let above = ecbs_down_to(pending, ledger);
+    let evicting = costs::cleared(pending, pending.i);
+    let nobody = Hit::none(pending.i + 1);
+    ledger[pending.i] = Column {
         above,
         evicting,
         most: nobody,
@@ -176,44 +175,38 @@ fn add_column(table: &Table, i: usize, ledger: &mut [Column; 32])
 }
 
 // The terms of the tasks above i. What is gathered for each of them is carried one row further, and the task at i gets a column of its own.
-pub fn weigh_row(table: &Table, i: usize, ledger: &mut [Column; 32], terms: &mut Terms)
-    requires { AcceptedTable table.now × (i < table.now.count) × Ledger table.now i ledger.old × Long terms.old }
-    ensures { RowWeighed table.now i ledger.new terms.new }
+pub fn weigh_row(pending: Pending, ledger: &mut [Column], terms: &mut Terms)
+    requires { Ledger pending.table.now pending.i ledger.old × FullTerms terms.old }
+    ensures { RowWeighed pending.entry.table.now pending.entry.i ledger.new terms.new }
 {
-    let ways = table.ways();
-    let ucb = &table.task(i).ucb;
+    let ways = pending.table.ways();
+    let ucb = &pending.task().ucb;
     let useful = Hit {
         reloads: ucb.size(ways),
-        victim: i,
+        victim: pending.i,
     };
-    for j in 0..i {
+    for j in 0..pending.i {
         ledger[j].gather(ucb, useful, ways);
-        let counted = ledger[j].counted(table.task(j).ecb, ways);
-        put(terms, table, j, counted);
+        let counted = ledger[j].counted(pending.table.task(j).ecb, ways);
+        put(terms, pending, j, counted);
     }
-    add_column(table, i, ledger);
+    add_column(pending, ledger);
 }
 
 // Makes the terms of row i, of which the ledger is carried past it, those while an access blocks the task at i: for the tasks above its ceiling its UCB is
 // gathered, too.
-pub fn weigh_access(
-    table: &Table,
-    i: usize,
-    ledger: &[Column; 32],
-    access: &Access,
-    terms: &mut Terms,
-)
-    requires { AcceptedTable table.now × (i < table.now.count) × (access.now.ceiling ≤ i) × Ledger table.now (i + 1) ledger.now × Weighed table.now i terms.old }
-    ensures { WeighedUnder table.now access.now i terms.new }
+pub fn weigh_access(pending: Pending, ledger: &[Column], access: &Access, terms: &mut Terms)
+    requires { (access.now.ceiling ≤ pending.i) × Ledger pending.table.now (pending.i + 1) ledger.now × Weighed pending.table.now pending.i terms.old }
+    ensures { WeighedUnder pending.entry.table.now access.now pending.entry.i terms.new }
 {
-    let ways = table.ways();
+    let ways = pending.table.ways();
     let useful = Hit {
         reloads: access.ucb.size(ways),
         victim: access.task,
     };
     for j in 0..access.ceiling {
-        let ecb = table.task(j).ecb;
+        let ecb = pending.table.task(j).ecb;
         let counted = ledger[j].counted_with(&access.ucb, useful, ecb, ways);
-        put(terms, table, j, counted);
+        put(terms, pending, j, counted);
     }
 }

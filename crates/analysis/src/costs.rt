@@ -1,16 +1,15 @@
 // What pre-emption costs: reload counts with whom they hit, and what one activation asks for with them. specs/Costs.antt says what they are; what is
 // here is common to the two modules that work them out, for the rows of a report and for one row.
 
-ghost use Rattle.std.specs.Prelude.{◌≡◌, ◌*◌, ◌<◌, ◌≤◌};
+ghost use Rattle.std.specs.Prelude.{◌≡◌, ◌*◌, ◌≤◌};
 ghost use Rattle.cache.specs.Sets.{size};
 ghost use Rattle.table.specs.Tables.{ways_in};
-ghost use Rattle.table.specs.Accepted.{AcceptedTable};
 ghost use Rattle.analysis.specs.Gather.{hit, larger_of};
 ghost use Rattle.analysis.specs.Costs.{reloads_in, with_hit, ecb_of, term_with};
 
 use cache::units::{Reloads, Ticks};
 use search::demand::Term;
-use table::Table;
+use table::accepted::Pending;
 
 // The methods that count reloads.
 #[derive(Clone, Copy)]
@@ -85,22 +84,22 @@ impl Charge {
 }
 
 // How many blocks the ECB of the task at j can clear: each of its cache sets has as many as there are ways.
-pub fn cleared(table: &Table, j: usize) -> Reloads
-    requires { AcceptedTable table.now × (j < table.now.count) }
-    ensures { result.0 ≡ size (ecb_of table.now j) * ways_in table.now }
+pub fn cleared(pending: Pending, j: usize) -> Reloads
+    requires { j ≤ pending.i }
+    ensures { result.0 ≡ size (ecb_of pending.entry.table.now j) * ways_in pending.entry.table.now }
 {
-    Reloads(table.task(j).ecb.size().0 * table.ways())
+    Reloads(pending.table.task(j).ecb.size().0 * pending.table.ways())
 }
 
 // What the task at j asks for, with so many reloads in its weight.
-pub fn term(table: &Table, j: usize, n: Reloads) -> Term
-    requires { AcceptedTable table.now × (j < table.now.count) × (n.0 ≤ 2048) }
-    ensures { result ≡ term_with table.now j n.0 }
+pub fn term(pending: Pending, j: usize, n: Reloads) -> Term
+    requires { (j ≤ pending.i) × (n.0 ≤ 2048) }
+    ensures { result ≡ term_with pending.entry.table.now j n.0 }
 {
-    let task = table.task(j);
+    let task = pending.table.task(j);
     Term {
         period: task.period,
         jitter: task.jitter,
-        weight: Ticks(task.work.0 + n.time(table.brt).0),
+        weight: Ticks(task.work.0 + n.time(pending.table.brt).0),
     }
 }

@@ -3,6 +3,8 @@
 
 // The same while an access blocks that task.
 pub mod blocked_row;
+// What may block a task.
+pub mod blockers;
 // Costs carried down the rows of a report.
 pub mod carried;
 // What pre-emption costs: reload counts and weights.
@@ -16,20 +18,21 @@ pub mod rows;
 
 ghost use Rattle.std.specs.Prelude.{◌≡◌, ◌<◌, ◌≤◌, length};
 ghost use Rattle.search.specs.Demand.{demand_of};
-ghost use Rattle.search.specs.Terms.{term_in, Handed};
+ghost use Rattle.search.specs.Terms.{term_in, NoOverflow};
 ghost use Rattle.search.specs.Least.{least_of, later};
-ghost use Rattle.table.specs.Accepted.{AcceptedTable};
 ghost use Rattle.table.specs.Tables.{at};
 ghost use Rattle.table.specs.Tasks.{limit_of};
-ghost use Rattle.analysis.specs.Row.{Begun};
+ghost use Rattle.analysis.specs.Row.{ReadyToJoin};
 ghost use Rattle.analysis.specs.BlockedRow.{ChargedUnder};
-ghost use Rattle.analysis.specs.Analysis.{least_under, answer_of, response_of, method_of, Blocks, OneBlocks};
+ghost use Rattle.analysis.specs.Responses.{IsResponse};
+ghost use Rattle.analysis.specs.Analysis.{least_under, counted_response, response_of, method_of, MayBlock};
 
+use crate::blockers::Blockers;
 use crate::costs::{Charge, Single};
 use cache::units::Ticks;
 use search::demand::{Response, Term};
 use search::response;
-use table::Table;
+use table::accepted::Pending;
 use table::accesses::Access;
 
 // The six methods.
@@ -59,7 +62,7 @@ impl Method {
 // The later of the answer so far and the smallest time up to a limit that equals its demand, for so much work of the task's own and blocking, under the terms of
 // those above it. Where there is no answer so far, nothing is searched for.
 fn by_terms(own: Ticks, terms: &[Term], limit: Ticks, so_far: Response) -> Response
-    requires { Handed own.0 terms.now limit.0 }
+    requires { NoOverflow own.0 terms.now limit.0 }
     ensures { result ≡ later so_far (least_of (demand_of own.0 (term_in terms.now) (length terms.now)) limit.0) }
 {
     let Response::Within(known) = so_far else {
@@ -71,101 +74,67 @@ fn by_terms(own: Ticks, terms: &[Term], limit: Ticks, so_far: Response) -> Respo
 
 // The same of the task at i while an access blocks it, by the charges with the access in `row`.
 fn by_charges(
-    table: &Table,
+    pending: Pending,
     method: Single,
-    i: usize,
     limit: Ticks,
     row: &[Charge; 32],
     access: &Access,
     so_far: Response,
 ) -> Response
-    requires { AcceptedTable table.now × (i < table.now.count) × (limit.0 ≤ 250000000) × ChargedUnder table.now access.now method i 0 row.now × Blocks i access.now }
-    ensures { result ≡ later so_far (least_under table.now access.now method i limit.0) }
+    requires { (limit.0 ≤ 250000000) × ChargedUnder pending.table.now access.now method pending.i 0 row.now × MayBlock access.now pending.i }
+    ensures { result ≡ later so_far (least_under pending.entry.table.now access.now method pending.entry.i limit.0) }
 {
-    let terms = blocked_row::terms(table, i, row);
-    let own = Ticks(table.task(i).work.0 + access.lasts.0);
-    by_terms(own, &terms[..i], limit, so_far)
+    let terms = blocked_row::terms(pending, row);
+    let own = Ticks(pending.task().work.0 + access.lasts.0);
+    by_terms(own, &terms[..pending.i], limit, so_far)
 }
 
 // The same by the charges without the access. Nothing is copied where the access adds nothing to them.
 pub fn later_under(
-    table: &Table,
+    pending: Pending,
     method: Single,
-    i: usize,
     limit: Ticks,
     row: &[Charge; 32],
     access: &Access,
     so_far: Response,
 ) -> Response
-    requires { AcceptedTable table.now × (i < table.now.count) × (limit.0 ≤ 250000000) × Begun table.now method i row.now × Blocks i access.now }
-    ensures { result ≡ later so_far (least_under table.now access.now method i limit.0) }
+    requires { (limit.0 ≤ 250000000) × ReadyToJoin pending.table.now method pending.i row.now × MayBlock access.now pending.i }
+    ensures { result ≡ later so_far (least_under pending.entry.table.now access.now method pending.entry.i limit.0) }
 {
     match method {
         Single::None | Single::EcbOnly => {
-            by_charges(table, method, i, limit, row, access, so_far)
+            by_charges(pending, method, limit, row, access, so_far)
         }
         Single::UcbOnly | Single::UcbUnion | Single::EcbUnion => {
             let mut joined = *row;
-            blocked_row::join(table, method, i, access, &mut joined);
-            by_charges(table, method, i, limit, &joined, access, so_far)
+            blocked_row::join(pending, method, access, &mut joined);
+            by_charges(pending, method, limit, &joined, access, so_far)
         }
     }
-}
-
-// Where the longest access stands that may block the task at i, if any may. What is found while it blocks is likely the latest, and then no other
-// one is searched for.
-pub fn longest(table: &Table, i: usize) -> Option<usize>
-    requires { AcceptedTable table.now }
-    ensures { OneBlocks table.now i result }
-{
-    let mut found: Option<usize> = None;
-    let mut most: u64 = 0;
-    for n in 0..table.access_count {
-        let access = &table.accesses[n];
-        if access.may_block(i) {
-            if most <= access.lasts.0 {
-                found = Some(n);
-                most = access.lasts.0;
-            }
-        }
-    }
-    found
 }
 
 // The latest of these answers within the task's limit over the accesses that may block it, and where none may, the answer by its own work alone.
-fn latest(table: &Table, method: Single, i: usize) -> Response
-    requires { AcceptedTable table.now × (i < table.now.count) }
-    ensures { result ≡ answer_of table.now method i }
+fn latest(pending: Pending, method: Single) -> Response
+    ensures { result ≡ counted_response pending.entry.table.now method pending.entry.i }
 {
-    let task = table.task(i);
-    let limit = Ticks(task.deadline.0 - task.jitter.0);
-    let row = one_row::charged(table, method, i);
-    let any = Response::Within(Ticks(0));
-    let Some(first) = longest(table, i) else {
-        return later_under(table, method, i, limit, &row, &Access::NONE, any);
-    };
-    let access = &table.accesses[first];
-    let mut latest = later_under(table, method, i, limit, &row, access, any);
-    for n in 0..table.access_count {
-        let access = &table.accesses[n];
-        if access.may_block(i) {
-            if n != first {
-                latest = later_under(table, method, i, limit, &row, access, latest);
-            }
-        }
+    let limit = pending.limit();
+    let row = one_row::charged(pending, method);
+    let mut latest = Response::Within(Ticks(0));
+    for access in Blockers::of(pending.table, pending.i, &Access::NONE) {
+        latest = later_under(pending, method, limit, &row, access, latest);
     }
     latest
 }
 
 // The response of the task at i: under combined the sooner of those of the two unions.
-pub fn respond(table: &Table, method: Method, i: usize) -> Response
-    requires { AcceptedTable table.now × (i < table.now.count) }
-    ensures { result ≡ response_of table.now method i }
+pub fn respond(pending: Pending, method: Method) -> Response
+    ensures value { result ≡ response_of pending.entry.table.now method pending.entry.i }
+    ensures means { IsResponse pending.entry.table.now method pending.entry.i result }
 {
     match method {
-        Method::Of(single) => latest(table, single, i),
+        Method::Of(single) => latest(pending, single),
         Method::Combined => {
-            latest(table, Single::UcbUnion, i).sooner(latest(table, Single::EcbUnion, i))
+            latest(pending, Single::UcbUnion).sooner(latest(pending, Single::EcbUnion))
         }
     }
 }

@@ -1,17 +1,19 @@
 // What a task needs, whatever its limit is, by which method, and what blocks it then: the figure that an explanation is about. specs/Needs.antt says what
 // that is.
 
-ghost use Rattle.std.specs.Prelude.{ℕ, ◌≡◌, ◌<◌, ◌≤◌, Some};
+ghost use Rattle.std.specs.Prelude.{◌≡◌, ◌<◌};
 ghost use Rattle.search.specs.Least.{later};
-ghost use Rattle.table.specs.Accepted.{AcceptedTable};
-ghost use Rattle.analysis.specs.Row.{Begun};
-ghost use Rattle.analysis.specs.Needs.{is_sooner, smaller_of, needed_of, need_of, MayBlockAt, need_at, just_before};
+ghost use Rattle.analysis.specs.Row.{ReadyToJoin};
+ghost use Rattle.table.specs.Tables.{accesses_of};
+ghost use Rattle.analysis.specs.Analysis.{least_under, MayBlock, MayBlockAt};
+ghost use Rattle.analysis.specs.Needs.{is_sooner, smaller_of, needed_of, need_of, need_at, just_before};
 
+use crate::blockers::Blocking;
 use crate::costs::{Charge, Single};
-use crate::{Method, one_row};
+use crate::{Method, blockers, one_row};
 use cache::units::Ticks;
 use search::demand::Response;
-use table::Table;
+use table::accepted::Pending;
 use table::accesses::Access;
 
 // How far a need is looked for: no deadline is later.
@@ -59,62 +61,42 @@ struct Start {
     known: Ticks,
 }
 
-// Where the longest access stands that may block the task at i, of those before the one at `end`, if there is one: the first of them.
-fn longest_before(table: &Table, i: usize, end: usize) -> Option<usize>
-    requires { AcceptedTable table.now × (end ≤ table.now.access_count) }
-    ensures { (k : ℕ) → result ≡ Some k → MayBlockAt table.now i k }
-{
-    let mut found: Option<usize> = None;
-    let mut most: u64 = 0;
-    for n in 0..end {
-        let access = &table.accesses[n];
-        if access.may_block(i) {
-            if most < access.lasts.0 {
-                found = Some(n);
-                most = access.lasts.0;
-            }
-        }
-    }
-    found
-}
-
-// What the task at i needs under a method while the access at k blocks it, or the time so far where that is later. `row` has the charges of the method without
-// an access.
+// What the task at i needs under a method while an access blocks it, or the time so far where that is later. `row` has the charges of the method without an access.
 fn need_while(
-    table: &Table,
+    pending: Pending,
     method: Single,
-    i: usize,
     row: &[Charge; 32],
-    k: usize,
+    access: &Access,
     so_far: Response,
 ) -> Response
-    requires { AcceptedTable table.now × (i < table.now.count) × Begun table.now method i row.now × MayBlockAt table.now i k }
-    ensures { result ≡ later so_far (need_at table.now method i k) }
+    requires { ReadyToJoin pending.table.now method pending.i row.now × MayBlock access.now pending.i }
+    ensures { result ≡ later so_far (least_under pending.entry.table.now access.now method pending.entry.i 250000000) }
 {
-    crate::later_under(table, method, i, FURTHEST, row, &table.accesses[k], so_far)
+    crate::later_under(pending, method, FURTHEST, row, access, so_far)
 }
 
 // What to begin with: the longest access, or where there is no time while it blocks, the longest before it, until there is one. Those before that add no more
 // reloads then need no more than that time, and are not searched for. Any access would do, and any time.
-fn begin_with(table: &Table, method: Single, i: usize, row: &[Charge; 32], longest: usize) -> Start
-    requires { AcceptedTable table.now × (i < table.now.count) × Begun table.now method i row.now × MayBlockAt table.now i longest }
-    ensures { MayBlockAt table.now i result.at × (result.time ≡ need_at table.now method i result.at) }
+fn begin_with(pending: Pending, method: Single, row: &[Charge; 32], longest: usize) -> Start
+    requires { ReadyToJoin pending.table.now method pending.i row.now × MayBlockAt (accesses_of pending.table.now) pending.i longest }
+    ensures { MayBlockAt (accesses_of pending.entry.table.now) pending.entry.i result.at × (result.time ≡ need_at pending.entry.table.now method pending.entry.i result.at) }
 {
+    let accesses = pending.table.accesses();
     let any = Response::Within(Ticks(0));
-    let time = need_while(table, method, i, row, longest, any);
+    let time = need_while(pending, method, row, &accesses[longest], any);
     let mut start = Start {
         at: longest,
         time,
         known: FURTHEST,
     };
-    for _ in 0..table.access_count {
+    for _ in 0..accesses.len() {
         let Response::Unschedulable = start.time else {
             return start;
         };
-        let Some(next) = longest_before(table, i, start.at) else {
+        let Some(next) = blockers::longest(&accesses[..start.at], pending.i) else {
             return start;
         };
-        match need_while(table, method, i, row, next, any) {
+        match need_while(pending, method, row, &accesses[next], any) {
             Response::Within(known) => {
                 start.known = known;
                 return start;
@@ -135,60 +117,65 @@ fn just_before(latest: Response, known: Ticks) -> Response
     }
 }
 
-// The largest of what the task at i needs while each access blocks that may, and the first of those that are equal. Of one before the largest so far it is asked
-// whether it needs no less, and of one behind, whether it needs more.
-fn need_under(table: &Table, method: Single, i: usize) -> Need
-    requires { AcceptedTable table.now × (i < table.now.count) }
-    ensures { result ≡ needed_of table.now method i }
+// The largest of what the task at i needs while each access blocks that may, and the first of those that are equal. From one of them on, those before it are
+// asked, the last first, whether they need no less, and then those behind it, whether they need more.
+fn need_under(pending: Pending, method: Single) -> Need
+    ensures { result ≡ needed_of pending.entry.table.now method pending.entry.i }
 {
-    let row = one_row::charged(table, method, i);
-    let Some(longest) = crate::longest(table, i) else {
+    let accesses = pending.table.accesses();
+    let row = one_row::charged(pending, method);
+    let Some(longest) = blockers::longest(accesses, pending.i) else {
         let any = Response::Within(Ticks(0));
         return Need {
             method,
-            time: crate::later_under(table, method, i, FURTHEST, &row, &Access::NONE, any),
+            time: need_while(pending, method, &row, &Access::NONE, any),
             blocker: Access::NONE,
         };
     };
-    let start = begin_with(table, method, i, &row, longest);
-    let mut at = start.at;
+    let start = begin_with(pending, method, &row, longest);
     let mut time = start.time;
-    for n in 0..table.access_count {
-        if table.accesses[n].may_block(i) {
-            if n < at {
-                let own = need_while(table, method, i, &row, n, just_before(time, start.known));
-                let no_less = !is_sooner(own, time);
-                if no_less {
-                    at = n;
-                    time = own;
-                }
-            } else if at < n {
-                let own = need_while(table, method, i, &row, n, time);
-                let more = is_sooner(time, own);
-                if more {
-                    at = n;
-                    time = own;
-                }
+    let mut blocker = &accesses[start.at];
+    for n in (0..start.at).rev() {
+        let access = &accesses[n];
+        if access.may_block(pending.i) {
+            let own = need_while(
+                pending,
+                method,
+                &row,
+                access,
+                just_before(time, start.known),
+            );
+            let no_less = !is_sooner(own, time);
+            if no_less {
+                time = own;
+                blocker = access;
             }
+        }
+    }
+    for access in Blocking::of(&accesses[start.at + 1..], pending.i) {
+        let own = need_while(pending, method, &row, access, time);
+        let more = is_sooner(time, own);
+        if more {
+            time = own;
+            blocker = access;
         }
     }
     Need {
         method,
         time,
-        blocker: table.accesses[at],
+        blocker: *blocker,
     }
 }
 
 // The need that explains what a method answers. Combined is explained by one of the unions.
-pub fn explained(table: &Table, method: Method, i: usize) -> Need
-    requires { AcceptedTable table.now × (i < table.now.count) }
-    ensures { result ≡ need_of table.now method i }
+pub fn explained(pending: Pending, method: Method) -> Need
+    ensures { result ≡ need_of pending.entry.table.now method pending.entry.i }
 {
     match method {
-        Method::Of(single) => need_under(table, single, i),
+        Method::Of(single) => need_under(pending, single),
         Method::Combined => {
-            let ucb_union = need_under(table, Single::UcbUnion, i);
-            ucb_union.smaller(need_under(table, Single::EcbUnion, i))
+            let ucb_union = need_under(pending, Single::UcbUnion);
+            ucb_union.smaller(need_under(pending, Single::EcbUnion))
         }
     }
 }

@@ -1,26 +1,32 @@
 // The responses of all tasks of a table under all methods. What one task's search finds out is carried on to the next.
 
-ghost use Rattle.std.specs.Prelude.{◌≡◌, ◌+◌, ◌<◌, length};
+ghost use Rattle.std.specs.Prelude.{◌≡◌, ◌+◌, ◌<◌, ◌≤◌, length};
 ghost use Rattle.search.specs.declared.demand.Response.TheVariants.{Unschedulable};
 ghost use Rattle.search.specs.Positions.{front};
 ghost use Rattle.search.specs.Demand.{demand_of};
-ghost use Rattle.search.specs.Terms.{term_in, Handed};
+ghost use Rattle.search.specs.Terms.{term_in, NoOverflow};
 ghost use Rattle.search.specs.Least.{least_of, later};
 ghost use Rattle.search.specs.Counts.{Started};
 ghost use Rattle.table.specs.Tables.{at};
-ghost use Rattle.table.specs.Accepted.{AcceptedTable};
 ghost use Rattle.analysis.specs.Carried.{Ledger, Weighed, WeighedUnder};
-ghost use Rattle.analysis.specs.Analysis.{Blocks};
-ghost use Rattle.analysis.specs.Rows.{Answered, Rising, WithOne, row_told, plain_of, Left, no_row, row_of};
+ghost use Rattle.analysis.specs.Analysis.{MayBlock};
+ghost use Rattle.analysis.specs.Rows.{Answered, NoneSoonerThanCheaper, WithOne, row_told, plain_of, CarriedCounts, no_row, row_of};
 
+use crate::blockers::Blockers;
 use crate::carried::{Column, Terms};
 use crate::{carried, costs};
 use cache::units::{Reloads, Ticks};
-use search::demand::{Response, Row, Term};
+use search::demand::{Response, Term};
 use search::response;
 use search::response::Count;
-use table::Table;
+use table::accepted::{Accepted, Pending};
 use table::accesses::Access;
+
+// The answers for one task under the methods 0 to 5.
+#[derive(Clone, Copy)]
+pub struct Row {
+    pub responses: [Response; 6],
+}
 
 // The answers for one task under the methods that count.
 #[derive(Clone, Copy)]
@@ -69,7 +75,7 @@ fn search(
     cheaper: Response,
     counts: &mut [Count],
 ) -> Response
-    requires handed { Handed own.0 terms.now limit.0 }
+    requires handed { NoOverflow own.0 terms.now limit.0 }
     requires started { Started own.0 (term_in terms.now) (length terms.now) counts.old }
     requires dearer { cheaper ≡ Unschedulable → Unschedulable ≡ later so_far (least_of (demand_of own.0 (term_in terms.now) (length terms.now)) limit.0) }
     ensures answer { result ≡ later so_far (least_of (demand_of own.0 (term_in terms.now) (length terms.now)) limit.0) }
@@ -87,30 +93,35 @@ fn search(
 // The answers so far with those while one access more blocks the task at i, by the terms of its row with that access. Each method goes on from a cheaper one:
 // the two unions from no reloads at all, ECB-Only from UCB-Union, and UCB-Only from ECB-Union. `counts` are left as by the search without reloads.
 fn by_row(
-    table: &Table,
-    i: usize,
+    pending: Pending,
     access: &Access,
     terms: &Terms,
     so_far: Answers,
     counts: &mut [Count; 32],
 ) -> Answers
-    requires table { AcceptedTable table.now × (i < table.now.count) }
-    requires blocks { Blocks i access.now }
-    requires weighed { WeighedUnder table.now access.now i terms.now }
-    requires rising { Rising so_far }
-    requires started { Started ((at table.now i).work.0 + access.now.lasts.0) (plain_of table.now) i counts.old }
-    ensures with_one { WithOne table.now access.now i so_far result }
-    ensures started { Started ((at table.now i).work.0 + access.now.lasts.0) (plain_of table.now) i counts.new }
+    requires blocks { MayBlock access.now pending.i }
+    requires weighed { WeighedUnder pending.table.now access.now pending.i terms.now }
+    requires rising { NoneSoonerThanCheaper so_far }
+    requires started { Started ((at pending.table.now pending.i).work.0 + access.now.lasts.0) (plain_of pending.table.now) pending.i counts.old }
+    ensures with_one { WithOne pending.entry.table.now access.now pending.entry.i so_far result }
+    ensures started { Started ((at pending.entry.table.now pending.entry.i).work.0 + access.now.lasts.0) (plain_of pending.entry.table.now) pending.entry.i counts.new }
 {
-    let task = table.task(i);
+    let task = pending.task();
     let own = Ticks(task.work.0 + access.lasts.0);
-    let limit = Ticks(task.deadline.0 - task.jitter.0);
+    let limit = pending.limit();
     let any = Response::Within(Ticks(0));
-    let none = search(own, &terms.none[..i], limit, so_far.none, any, counts);
+    let none = search(
+        own,
+        &terms.none[..pending.i],
+        limit,
+        so_far.none,
+        any,
+        counts,
+    );
     let mut these = *counts;
     let ucb_union = search(
         own,
-        &terms.ucb_union[..i],
+        &terms.ucb_union[..pending.i],
         limit,
         so_far.ucb_union,
         none,
@@ -118,7 +129,7 @@ fn by_row(
     );
     let ecb_only = search(
         own,
-        &terms.ecb_only[..i],
+        &terms.ecb_only[..pending.i],
         limit,
         so_far.ecb_only,
         ucb_union,
@@ -127,7 +138,7 @@ fn by_row(
     let mut others = *counts;
     let ecb_union = search(
         own,
-        &terms.ecb_union[..i],
+        &terms.ecb_union[..pending.i],
         limit,
         so_far.ecb_union,
         none,
@@ -135,7 +146,7 @@ fn by_row(
     );
     let ucb_only = search(
         own,
-        &terms.ucb_only[..i],
+        &terms.ucb_only[..pending.i],
         limit,
         so_far.ucb_only,
         ecb_union,
@@ -150,96 +161,91 @@ fn by_row(
     }
 }
 
-// While one access blocks, from the terms of the row without it.
+// While one access blocks, from the terms of the row without it. No task is above a ceiling at position 0, and then nothing is copied.
 fn under(
-    table: &Table,
-    i: usize,
-    ledger: &[Column; 32],
+    pending: Pending,
+    ledger: &[Column],
     terms: &Terms,
     access: &Access,
     so_far: Answers,
     counts: &[Count; 32],
 ) -> Answers
-    requires table { AcceptedTable table.now × (i < table.now.count) }
-    requires blocks { Blocks i access.now }
-    requires ledger { Ledger table.now (i + 1) ledger.now }
-    requires weighed { Weighed table.now i terms.now }
-    requires rising { Rising so_far }
-    requires started { Started ((at table.now i).work.0 + access.now.lasts.0) (plain_of table.now) i counts.now }
-    ensures { WithOne table.now access.now i so_far result }
+    requires blocks { MayBlock access.now pending.i }
+    requires ledger { Ledger pending.table.now (pending.i + 1) ledger.now }
+    requires weighed { Weighed pending.table.now pending.i terms.now }
+    requires rising { NoneSoonerThanCheaper so_far }
+    requires started { Started ((at pending.table.now pending.i).work.0 + access.now.lasts.0) (plain_of pending.table.now) pending.i counts.now }
+    ensures { WithOne pending.entry.table.now access.now pending.entry.i so_far result }
 {
-    let mut joined = *terms;
-    carried::weigh_access(table, i, ledger, access, &mut joined);
     let mut these = *counts;
-    by_row(table, i, access, &joined, so_far, &mut these)
+    if access.ceiling == 0 {
+        return by_row(pending, access, terms, so_far, &mut these);
+    }
+    let mut joined = *terms;
+    carried::weigh_access(pending, ledger, access, &mut joined);
+    by_row(pending, access, &joined, so_far, &mut these)
 }
 
 // The answers for the task at i: the latest over the accesses that may block it, and where none may, those by its own work alone. `counts` are left as by the
 // search without reloads and without an access.
-fn over_all(
-    table: &Table,
-    i: usize,
-    ledger: &[Column; 32],
-    terms: &Terms,
-    counts: &mut [Count; 32],
-) -> Answers
-    requires table { AcceptedTable table.now × (i < table.now.count) }
-    requires ledger { Ledger table.now (i + 1) ledger.now }
-    requires weighed { Weighed table.now i terms.now }
-    requires started { Started (at table.now i).work.0 (plain_of table.now) i counts.old }
-    ensures answered { Answered table.now i result }
-    ensures started { Started (at table.now i).work.0 (plain_of table.now) i counts.new }
+fn over_all(pending: Pending, ledger: &[Column], terms: &Terms, counts: &mut [Count; 32]) -> Answers
+    requires ledger { Ledger pending.table.now (pending.i + 1) ledger.now }
+    requires weighed { Weighed pending.table.now pending.i terms.now }
+    requires started { Started (at pending.table.now pending.i).work.0 (plain_of pending.table.now) pending.i counts.old }
+    ensures answered { Answered pending.entry.table.now pending.entry.i result }
+    ensures started { Started (at pending.entry.table.now pending.entry.i).work.0 (plain_of pending.entry.table.now) pending.entry.i counts.new }
 {
-    if table.access_count == 0 {
-        return by_row(table, i, &Access::NONE, terms, Answers::FIRST, counts);
+    if pending.table.access_count == 0 {
+        return by_row(pending, &Access::NONE, terms, Answers::FIRST, counts);
     }
-    let task = table.task(i);
-    let limit = Ticks(task.deadline.0 - task.jitter.0);
-    response::least(task.work, &terms.none[..i], limit, counts);
-    let Some(first) = crate::longest(table, i) else {
-        return by_row(table, i, &Access::NONE, terms, Answers::FIRST, counts);
-    };
-    let access = &table.accesses[first];
-    let mut latest = under(table, i, ledger, terms, access, Answers::FIRST, counts);
-    for n in 0..table.access_count {
-        let access = &table.accesses[n];
-        if access.may_block(i) {
-            if n != first {
-                latest = under(table, i, ledger, terms, access, latest, counts);
-            }
-        }
+    let task = pending.task();
+    let limit = pending.limit();
+    response::least(task.work, &terms.none[..pending.i], limit, counts);
+    let mut latest = Answers::FIRST;
+    for access in Blockers::of(pending.table, pending.i, &Access::NONE) {
+        latest = under(pending, ledger, terms, access, latest, counts);
     }
     latest
 }
 
 // Makes `counts`, as the search for the task above left them, what the one for the task at i starts from. It has the work of the task above in its demand,
 // so it is answered no sooner.
-fn carry_on(table: &Table, i: usize, counts: &mut [Count; 32])
-    requires table { AcceptedTable table.now × (i < table.now.count) }
-    requires left { Left table.now i counts.old }
-    ensures { Started (at table.now i).work.0 (plain_of table.now) i counts.new }
+fn carry_on(pending: Pending, counts: &mut [Count; 32])
+    requires left { CarriedCounts pending.table.now pending.i counts.old }
+    ensures { Started (at pending.entry.table.now pending.entry.i).work.0 (plain_of pending.entry.table.now) pending.entry.i counts.new }
 {
-    if i == 0 {
+    if pending.i == 0 {
         return;
     }
-    counts[i - 1] = Count::once(costs::term(table, i - 1, Reloads(0)));
+    counts[pending.i - 1] = Count::once(costs::term(pending, pending.i - 1, Reloads(0)));
 }
 
-// The responses of every task of a table under every method.
-pub fn responses(table: &Table) -> [Row; 32]
-    requires { AcceptedTable table.now }
-    ensures { result ≡ front no_row (row_of table.now) table.now.count }
+// The responses of every task of a table under every method. A small table gets a short ledger: the time to clear a long one would show there.
+pub fn responses(accepted: Accepted) -> [Row; 32]
+    ensures { result ≡ front no_row (row_of accepted.entry.table.now) accepted.entry.table.now.count }
 {
-    let mut ledger = [Column::NONE; 32];
+    if accepted.table.count <= 4 {
+        each_row(accepted, &mut [Column::NONE; 4])
+    } else {
+        each_row(accepted, &mut [Column::NONE; 32])
+    }
+}
+
+// The same, row after row, with a ledger that has a place for each task.
+fn each_row(accepted: Accepted, ledger: &mut [Column]) -> [Row; 32]
+    requires { accepted.table.now.count ≤ length ledger.old }
+    ensures { result ≡ front no_row (row_of accepted.entry.table.now) accepted.entry.table.now.count }
+{
     let mut terms = Terms::NONE;
     let mut counts = [Count::NONE; 32];
     let mut rows = [Row {
         responses: [Response::Unschedulable; 6],
     }; 32];
-    for i in 0..table.count {
-        carried::weigh_row(table, i, &mut ledger, &mut terms);
-        carry_on(table, i, &mut counts);
-        rows[i] = over_all(table, i, &ledger, &terms, &mut counts).row();
+    for i in 0..accepted.table.count {
+        let pending = accepted.pending(i);
+        carried::weigh_row(pending, ledger, &mut terms);
+        carry_on(pending, &mut counts);
+        rows[i] = over_all(pending, ledger, &terms, &mut counts).row();
     }
     rows
 }

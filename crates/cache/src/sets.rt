@@ -23,7 +23,7 @@ pub struct CacheSet {
 
 impl CacheSet {
     // The most cache sets that there are, and so the largest size.
-    pub const MOST: u64 = 256;
+    pub const MOST_SETS: u64 = 256;
 
     pub const EMPTY: CacheSet = CacheSet {
         w0: 0,
@@ -141,7 +141,7 @@ impl CacheSet {
     pub fn from_field(field: &[u8], sets: u64) -> Option<CacheSet>
         ensures { result ≡ read_set sets field.now }
     {
-        if sets > CacheSet::MOST {
+        if sets > CacheSet::MOST_SETS {
             return None;
         }
         if field.len() as u64 != sets / 4 {

@@ -234,7 +234,7 @@ fn is_at_most(b: u8, most: u64) -> bool
 fn is_counted(field: &[u8], sets: u64) -> bool
     ensures { result ≡ is_counted sets field.now }
 {
-    sets <= CacheSet::MOST && field.len() as u64 == sets && all_digits(field)
+    sets <= CacheSet::MOST_SETS && field.len() as u64 == sets && all_digits(field)
 }
 
 fn all_digits(field: &[u8]) -> bool

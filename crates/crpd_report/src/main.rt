@@ -4,11 +4,13 @@
 ghost use Rattle.std.specs.Prelude.{◌≡◌, ◌≤◌, length, take, IfOk, OnOk, OnErr, IfSome};
 ghost use Rattle.std.specs.Io.{ReadsAtMost};
 ghost use Rattle.std.specs.Io.KnownBytes.{Appends, Consumes, ReadConsumes, WriteAppends};
-ghost use Rattle.crpd_report.specs.Runs.{ConsumesLess, AppendsPart, Printing, Reading};
+ghost use Rattle.crpd_report.specs.Runs.{ConsumesLess, AppendsPart, Prints, Reads};
 
 use crpd::Outcome;
 use std::io::{self, ErrorKind, Print, Read, Write};
 use std::process::ExitCode;
+use table::Table;
+use writing::writer::ROOM;
 
 // One read. One that a signal interrupts is tried again; the tries are counted since a loop has to end.
 fn read_some<R: Read>(input: &mut R, buf: &mut [u8]) -> io::Result<usize>
@@ -87,15 +89,15 @@ pub enum Failure {
 // The whole run: what is printed of all that the reader has is written, and nothing else; and how it went with the text. One byte more than a table may have tells
 // that it is too long; what follows is not read.
 pub fn run<R: Read, W: Write>(reader: &mut R, writer: &mut W) -> Result<Outcome, Failure>
-    ensures written { IfSome (R.remaining reader.old) (λ text. Printing text (W.contents writer.old) (W.contents writer.new) result) }
-    ensures read { IfSome (R.remaining reader.old) (λ text. Reading text (R.remaining reader.old) (R.remaining reader.new) result) }
+    ensures written { IfSome (R.remaining reader.old) (λ text. Prints text (W.contents writer.old) (W.contents writer.new) result) }
+    ensures read { IfSome (R.remaining reader.old) (λ text. Reads text (R.remaining reader.old) (R.remaining reader.new) result) }
 {
-    let mut text = [0u8; 16385];
+    let mut text = [0u8; Table::LONGEST_TEXT + 1];
     let len = match read_input(reader, &mut text) {
         Ok(len) => len,
         Err(_) => return Err(Failure::Read),
     };
-    let mut out = [0u8; 2746];
+    let mut out = [0u8; ROOM];
     let printed = crpd::print(&text[..len], &mut out);
     match write_output(writer, &out[..printed.len]) {
         Ok(()) => Ok(printed.outcome),

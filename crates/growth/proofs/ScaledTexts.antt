@@ -1,5 +1,5 @@
 -- When the text of a scaled table is accepted: just where no C is scaled beyond the longest, and then as that table.
-use Rattle.std.proofs.Common.{◌≡◌, ℕ, zero, suc, ◌+◌, ◌-◌, ◌≤◌, ◌<◌, Bool, true, not, cond, ◌||◌, List, [], ◌∷◌, ◌++◌, length, take, get_or, map, flat_map, replicate, refl, sym, ap, ap₂, ◌∙◌, arith, subst, Some, Result, Ok, ltb, le-leb}
+use Rattle.std.proofs.Common.{◌≡◌, ℕ, zero, suc, ◌-◌, ◌≤◌, ◌<◌, Bool, true, ◌||◌, List, [], ◌∷◌, ◌++◌, length, take, get_or, map, flat_map, replicate, refl, sym, ap, ap₂, ◌∙◌, arith, subst, Some, Ok, ltb, le-leb}
 use Rattle.std.proofs.Math.ListN.{length-map}
 use Rattle.std.proofs.lemmas.List.{map-append}
 use Rattle.std.proofs.lemmas.List.Elements.{All-append, All-replicate}
@@ -22,7 +22,6 @@ use Rattle.table.specs.Accepted.{AcceptedTable}
 use Rattle.table.specs.Reading.{read_text}
 use Rattle.writing.specs.Text.{spelled}
 use Rattle.writing.specs.Marks.{useful_text}
-use Rattle.table.specs.declared.refusals.Refusal.{Refusal}
 use Rattle.table_text.specs.TableText.{task_fields, access_fields, lines_of, line_text, table_text}
 use Rattle.table_text.specs.Readable.{Whole, Readable}
 use Rattle.table_text.specs.Tests.{is_next, are_next, is_readable}

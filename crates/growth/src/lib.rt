@@ -9,39 +9,37 @@ pub mod scaling;
 ghost use Rattle.std.specs.Prelude.{◌≡◌, min, max, ◌≤◌, ◌<◌, length};
 ghost use Rattle.search.specs.Positions.{front};
 ghost use Rattle.search.specs.Demand.{term_of, demand_of};
-ghost use Rattle.search.specs.Terms.{term_in, Handed};
+ghost use Rattle.search.specs.Terms.{term_in, NoOverflow};
 ghost use Rattle.search.specs.Least.{least_of};
 ghost use Rattle.search.specs.Counts.{Started};
 ghost use Rattle.table_text.specs.Readable.{Readable};
 ghost use Rattle.table.specs.Accepted.{AcceptedTable};
 ghost use Rattle.analysis.specs.Costs.{term_with};
-ghost use Rattle.analysis.specs.Row.{Begun};
+ghost use Rattle.analysis.specs.Row.{ReadyToJoin};
 ghost use Rattle.analysis.specs.BlockedRow.{ChargedUnder, FewReloads, term_by};
-ghost use Rattle.analysis.specs.Analysis.{answer_of, response_of, Blocks};
-ghost use Rattle.report.specs.Verdicts.{has_response};
+ghost use Rattle.analysis.specs.Analysis.{counted_response, response_of, MayBlock};
+ghost use Rattle.analysis.specs.Verdict.{has_response};
 ghost use Rattle.growth.specs.Scaling.{FitsBy, scaled_by};
 ghost use Rattle.growth.specs.Growth.{growth_of, Bounds};
+ghost use Rattle.growth.specs.Boundary.{IsGrowth};
+ghost use Rattle.growth.specs.declared.scaling.TheConstants.{MOST};
 ghost use Rattle.growth.specs.Tried.{answers_under, text_fits, Stretches, FitsUpTo};
 
 use crate::scaling::scaled_work;
+use analysis::blockers::Blockers;
 use analysis::costs::{Charge, Single};
 use analysis::{Method, blocked_row, one_row};
 use cache::units::{Reloads, Ticks};
 use search::demand::{Response, Term, demand_at};
 use search::response;
 use search::response::Count;
+use table::accepted::Pending;
 use table::accesses::Access;
 use table::{Table, accesses};
 use table_text::extent;
 
-// The greatest k that is tried.
-const MOST_TRIED: u64 = 4000;
-
 // What C times k may not be above: the longest C, in thousandths.
-const LONGEST: u64 = 250000000000;
-
-// No text that is read is longer.
-const LONGEST_TEXT: usize = 16384;
+const LONGEST_WORK: u64 = Ticks::LONGEST * scaling::WHOLE;
 
 // What the task at j asks for with C scaled by k, and with so many reloads in its weight.
 fn scaled_term(table: &Table, j: usize, reloads: Reloads, k: u64) -> Term
@@ -71,7 +69,7 @@ fn scaled_terms(table: &Table, i: usize, row: &[Charge; 32], k: u64) -> [Term; 3
 
 // The demand at `r` under these terms, before they are listed.
 fn demand_by_row(table: &Table, i: usize, row: &[Charge; 32], own: u64, k: u64, r: u64) -> u64
-    requires { Stretches table.now k × (i < table.now.count) × FewReloads i row.now × (own ≤ 500000000) × (r ≤ 250000000) }
+    requires { Stretches table.now k × (i < table.now.count) × FewReloads i row.now × (own ≤ 500000000) × (r ≤ Ticks.LONGEST) }
     ensures { result ≡ demand_of own (term_by (scaled_by k table.now) row.now) i r }
 {
     let mut demand = own;
@@ -90,7 +88,7 @@ fn responds(
     likely: &mut Ticks,
     counts: &mut [Count],
 ) -> bool
-    requires { Handed own.0 terms.now limit.0 × Started own.0 (term_in terms.now) (length terms.now) counts.old }
+    requires { NoOverflow own.0 terms.now limit.0 × Started own.0 (term_in terms.now) (length terms.now) counts.old }
     ensures value { result ≡ has_response (least_of (demand_of own.0 (term_in terms.now) (length terms.now)) limit.0) }
     ensures started { Started own.0 (term_in terms.now) (length terms.now) counts.new }
 {
@@ -108,7 +106,7 @@ fn responds(
 
 // The greatest k up to `most` at which the task at i has a response while an access blocks it, by the charges with the access in `row`. Most tasks have one
 // at `most`, and no search is begun for them. What is searched out at a k where there is a response is what a greater k is searched from.
-fn by_charges(
+fn most_by_charges(
     table: &Table,
     method: Single,
     i: usize,
@@ -117,7 +115,7 @@ fn by_charges(
     most: u64,
     likely: &mut Ticks,
 ) -> u64
-    requires { Stretches table.now most × (i < table.now.count) × ChargedUnder table.now access.now method i 0 row.now × Blocks i access.now }
+    requires { Stretches table.now most × (i < table.now.count) × ChargedUnder table.now access.now method i 0 row.now × MayBlock access.now i }
     ensures { Bounds (answers_under table.now access.now method i) most result }
 {
     if most == 0 {
@@ -155,7 +153,7 @@ fn by_charges(
 }
 
 // The same by the charges without the access. Nothing is copied where the access adds nothing to them.
-fn under(
+fn most_under(
     table: &Table,
     method: Single,
     i: usize,
@@ -164,15 +162,17 @@ fn under(
     most: u64,
     likely: &mut Ticks,
 ) -> u64
-    requires { Stretches table.now most × (i < table.now.count) × Begun table.now method i row.now × Blocks i access.now }
+    requires { Stretches table.now most × (i < table.now.count) × ReadyToJoin table.now method i row.now × MayBlock access.now i }
     ensures { Bounds (answers_under table.now access.now method i) most result }
 {
     match method {
-        Single::None | Single::EcbOnly => by_charges(table, method, i, row, access, most, likely),
+        Single::None | Single::EcbOnly => most_by_charges(
+            table, method, i, row, access, most, likely,
+        ),
         Single::UcbOnly | Single::UcbUnion | Single::EcbUnion => {
             let mut joined = *row;
-            blocked_row::join(table, method, i, access, &mut joined);
-            by_charges(table, method, i, &joined, access, most, likely)
+            blocked_row::join(Pending { table, i }, method, access, &mut joined);
+            most_by_charges(table, method, i, &joined, access, most, likely)
         }
     }
 }
@@ -180,21 +180,12 @@ fn under(
 // The greatest k up to `most` at which the task at i has a response whichever access blocks it that may, and where none may by its own work alone.
 fn over_blockers(table: &Table, method: Single, i: usize, most: u64, likely: &mut Ticks) -> u64
     requires { Stretches table.now most × (i < table.now.count) }
-    ensures { Bounds (λ k. has_response (answer_of (scaled_by k table.now) method i)) most result }
+    ensures { Bounds (λ k. has_response (counted_response (scaled_by k table.now) method i)) most result }
 {
-    let row = one_row::charged(table, method, i);
-    let Some(first) = analysis::longest(table, i) else {
-        return under(table, method, i, &row, &Access::NONE, most, likely);
-    };
-    let access = &table.accesses[first];
-    let mut left = under(table, method, i, &row, access, most, likely);
-    for n in 0..table.access_count {
-        let access = &table.accesses[n];
-        if access.may_block(i) {
-            if n != first {
-                left = under(table, method, i, &row, access, left, likely);
-            }
-        }
+    let row = one_row::charged(Pending { table, i }, method);
+    let mut left = most;
+    for access in Blockers::of(table, i, &Access::NONE) {
+        left = most_under(table, method, i, &row, access, left, likely);
     }
     left
 }
@@ -234,29 +225,29 @@ fn fits_up_to(table: &Table) -> u64
     requires { AcceptedTable table.now }
     ensures { FitsUpTo table.now table.now.count result }
 {
-    let mut most = MOST_TRIED;
+    let mut most = scaling::MOST;
     for j in 0..table.count {
-        most = smaller(most, LONGEST / table.task(j).work.0);
+        most = smaller(most, LONGEST_WORK / table.task(j).work.0);
     }
     most
 }
 
 // Whether the text of the table scaled by k is no longer than one that is read.
 fn text_fits(table: &Table, k: u64) -> bool
-    requires { Readable table.now × (k ≤ 4000) }
+    requires { Readable table.now × (k ≤ MOST) }
     ensures { result ≡ text_fits table.now k }
 {
     let mut scaled = *table;
     scaling::scale(&mut scaled, k);
-    extent::length(&scaled) <= LONGEST_TEXT
+    extent::length(&scaled) <= Table::LONGEST_TEXT
 }
 
 // The greatest k up to `most` at which it is: where C grow, so does their text. Most texts are so short that it is at every k, since no C has more than nine digits.
 fn texts_up_to(table: &Table, most: u64) -> u64
-    requires { Readable table.now × (most ≤ 4000) × FitsBy most table.now }
+    requires { Readable table.now × (most ≤ MOST) × FitsBy most table.now }
     ensures { Bounds (text_fits table.now) most result }
 {
-    if extent::length(table) + 8 * table.count <= LONGEST_TEXT {
+    if extent::length(table) + 8 * table.count <= Table::LONGEST_TEXT {
         return most;
     }
     if text_fits(table, most) {
@@ -278,7 +269,8 @@ fn texts_up_to(table: &Table, most: u64) -> u64
 // The growth that is left of a table under a method.
 pub fn growth(table: &Table, method: Method) -> u64
     requires { Readable table.now }
-    ensures { result ≡ growth_of method table.now }
+    ensures value { result ≡ growth_of method table.now }
+    ensures means { IsGrowth table.now method result }
 {
     let mut left = texts_up_to(table, fits_up_to(table));
     let mut likely = Ticks(0);

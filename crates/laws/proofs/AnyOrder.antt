@@ -24,7 +24,7 @@ use Rattle.analysis.specs.Costs.{ucb_of, ecb_of, reloads_with, term_with, term_u
 use Rattle.analysis.specs.declared.Method.{Method}
 use Rattle.analysis.specs.declared.Method.TheVariants.{Of, Combined}
 use Rattle.analysis.proofs.HitLaws.{larger-count, largest-count}
-use Rattle.analysis.specs.Analysis.{blockers_of, answer_of, response_of}
+use Rattle.analysis.specs.Analysis.{blockers_of, counted_response, response_of}
 use Rattle.laws.specs.Permutations.{Permutation, EachOnce, Unordered}
 use Rattle.laws.specs.CacheSets.{SizesAddUp}
 use Rattle.laws.specs.Equation.{demand_over, reloads_over, Arrangement, term_arranged, demand_arranged, answer_arranged, response_arranged}
@@ -112,8 +112,8 @@ equation-any-order table a m i arranged r =
         (arranged.affected-is j l) (arranged.evicting-is j l) m)
 
 -- its answer under a method that counts
-pub answer-any-order : (table : Table) (m : Single) (i : ℕ) (arranged : Access → ℕ → Arrangement i) → answer_arranged table m i arranged ≡ answer_of table m i
-unfolding answer_of
+pub answer-any-order : (table : Table) (m : Single) (i : ℕ) (arranged : Access → ℕ → Arrangement i) → answer_arranged table m i arranged ≡ counted_response table m i
+unfolding counted_response
 answer-any-order table m i arranged =
     ap (λ (f : Access → Response). latest_of (map f (blockers_of table i)))
     (fun_ext (λ a. ap (λ (f : ℕ → ℕ). least_of f (limit_of (at table i))) (fun_ext (λ r. equation-any-order table a m i (arranged a r) r))))

@@ -6,9 +6,9 @@ use Rattle.table.specs.declared.refusals.Refusal.{Refusal}
 use Rattle.table.specs.Numbers.{untold}
 use Rattle.table.specs.declared.Table.{Table}
 use Rattle.search.specs.declared.demand.Response.{Response}
-use Rattle.writing.specs.Delivery.{written_of, buffer_of, Put}
-use Rattle.crpd.specs.Operations.{answer_to, growth_to, told_of, left_of, TextWritten, TextReported, TextExplained, TableWritten, TextRewritten, TextScaled, printed}
-use Rattle.crpd.specs.Codes.{code_by, ticks_of, number_code, TextCoded, DeliveryCoded}
+use Rattle.writing.specs.Delivery.{written_of, buffer_of, PutsText}
+use Rattle.crpd.specs.Operations.{answer_to, growth_to, told_of, left_of, WritesText, report_to, explanation_to, WritesTable, rewritten, scaled_to, printed}
+use Rattle.crpd.specs.Codes.{code_by, ticks_of, number_code, CodesText}
 use Rattle.laws.specs.Calls.{started_with, CallsAgree, SameRoom}
 
 -- ---- a text that is delivered whole or refused
@@ -60,7 +60,7 @@ module _ (text : List ℕ) (m : ℕ) where
 -- ---- the operations that write: one law for all texts
 
 module _ {most : ℕ} {made : Result (List ℕ) Refusal} {before after before' after' : List ℕ} {one other : Result ℕ Refusal} where
-  pub written-calls-agree : TextWritten most made before one after → TextWritten most made before' other after' → SameRoom most before before'
+  pub written-calls-agree : WritesText most made before one after → WritesText most made before' other after' → SameRoom most before before'
       → CallsAgree one other before after before' after'
   written-calls-agree p q room =
       told-agree (λ (w : Result ℕ Refusal). w) (made-agree made before before' (λ text e. fits-alike (length text) most before before' (p.short text e) room))
@@ -68,23 +68,23 @@ module _ {most : ℕ} {made : Result (List ℕ) Refusal} {before after before' a
 
 -- two reports, explanations, rewritten and scaled texts of one text, and two texts of one table
 module _ {before after before' after' : List ℕ} {one other : Result ℕ Refusal} where
-  pub report-calls-agree : (text : List ℕ) → TextReported text before one after → TextReported text before' other after' → SameRoom 2746 before before'
+  pub report-calls-agree : (text : List ℕ) → WritesText 2746 (report_to text) before one after → WritesText 2746 (report_to text) before' other after' → SameRoom 2746 before before'
       → CallsAgree one other before after before' after'
   report-calls-agree text = written-calls-agree
 
-  pub explain-calls-agree : (text : List ℕ) (m i : ℕ) → TextExplained text m i before one after → TextExplained text m i before' other after'
+  pub explain-calls-agree : (text : List ℕ) (m i : ℕ) → WritesText 1348 (explanation_to text m i) before one after → WritesText 1348 (explanation_to text m i) before' other after'
       → SameRoom 1348 before before' → CallsAgree one other before after before' after'
   explain-calls-agree text m i = written-calls-agree
 
-  pub rewrite-calls-agree : (text : List ℕ) → TextRewritten text before one after → TextRewritten text before' other after' → SameRoom 16384 before before'
+  pub rewrite-calls-agree : (text : List ℕ) → WritesText 16384 (rewritten text) before one after → WritesText 16384 (rewritten text) before' other after' → SameRoom 16384 before before'
       → CallsAgree one other before after before' after'
   rewrite-calls-agree text = written-calls-agree
 
-  pub scaled-calls-agree : (text : List ℕ) (m : ℕ) → TextScaled text m before one after → TextScaled text m before' other after' → SameRoom 16384 before before'
+  pub scaled-calls-agree : (text : List ℕ) (m : ℕ) → WritesText 16384 (scaled_to text m) before one after → WritesText 16384 (scaled_to text m) before' other after' → SameRoom 16384 before before'
       → CallsAgree one other before after before' after'
   scaled-calls-agree text m = written-calls-agree
 
-  pub write-calls-agree : (table : Table) → TableWritten table before one after → TableWritten table before' other after' → SameRoom 16384 before before'
+  pub write-calls-agree : (table : Table) → WritesTable table before one after → WritesTable table before' other after' → SameRoom 16384 before before'
       → CallsAgree one other before after before' after'
   write-calls-agree table p q = written-calls-agree p.written q.written
 
@@ -92,7 +92,7 @@ module _ {before after before' after' : List ℕ} {one other : Result ℕ Refusa
 
 -- whatever text is made, so much room as it takes will do
 module _ {made : Result (List ℕ) Refusal} {before after before' after' : List ℕ} {one other : ℕ} where
-  pub exported-calls-agree : TextCoded made before one after → TextCoded made before' other after' → ((text : List ℕ) → made ≡ Ok text → SameRoom (length text) before before')
+  pub exported-calls-agree : CodesText made before one after → CodesText made before' other after' → ((text : List ℕ) → made ≡ Ok text → SameRoom (length text) before before')
       → CallsAgree one other before after before' after'
   exported-calls-agree p q room =
       told-agree number_code (made-agree made before before' (λ text e. fits-alike (length text) (length text) before before' (omega arith) (room text e)))
@@ -101,10 +101,10 @@ module _ {made : Result (List ℕ) Refusal} {before after before' after' : List 
 -- ---- what the program prints: `crpd_print` and `print`
 
 module _ {text before after before' after' : List ℕ} {one other : ℕ} where
-  pub exported-print-calls-agree : DeliveryCoded text before one after → DeliveryCoded text before' other after' → SameRoom (length text) before before'
+  pub exported-print-calls-agree : CodesText (Ok text) before one after → CodesText (Ok text) before' other after' → SameRoom (length text) before before'
       → CallsAgree one other before after before' after'
   exported-print-calls-agree p q room = exported-calls-agree p q (λ t e. let same : text ≡ t = cc in rw (← same) room)
 
-pub print-calls-agree : (text : List ℕ) {before after before' after' : List ℕ} {one other : ℕ} → Put (printed text) before one after
-    → Put (printed text) before' other after' → CallsAgree one other before after before' after'
+pub print-calls-agree : (text : List ℕ) {before after before' after' : List ℕ} {one other : ℕ} → PutsText (printed text) before one after
+    → PutsText (printed text) before' other after' → CallsAgree one other before after before' after'
 print-calls-agree text p q = record { answers = p.length-is ∙ sym q.length-is; bytes = printed text; after_is = p.buffer-is; after'-is = q.buffer-is }

@@ -12,17 +12,17 @@ use Rattle.table.specs.Accepted.{AcceptedTable}
 use Rattle.analysis.specs.declared.costs.Single.{Single}
 use Rattle.analysis.specs.declared.costs.Single.TheVariants.{None, EcbOnly, UcbOnly, UcbUnion, EcbUnion}
 use Rattle.analysis.specs.declared.Method.TheVariants.{Of, Combined}
-use Rattle.analysis.specs.Analysis.{blockers_of, least_under, answer_of, response_of}
+use Rattle.analysis.specs.Analysis.{blockers_of, least_under, counted_response, response_of}
 use Rattle.analysis.specs.Rows.{cheaper}
 use Rattle.analysis.proofs.RowLaws.{no-later}
 use Rattle.analysis.proofs.Orders.{latest-mono}
 use Rattle.laws.specs.declared.dominance.Six.{Six}
 use Rattle.laws.specs.Dominance.{exceeds, SixInOrder}
-use Rattle.laws.proofs.ResponseLaws.{is-sooner}
+use Rattle.analysis.proofs.ResponseLaws.{is-sooner}
 
 module _ (table : Table) (accepted : AcceptedTable table) (i : ℕ) (here : i < table.count) where
-  cheaper-first : (m : Single) → NoLater (answer_of table (cheaper m) i) (answer_of table m i)
-  unfolding answer_of
+  cheaper-first : (m : Single) → NoLater (counted_response table (cheaper m) i) (counted_response table m i)
+  unfolding counted_response
   cheaper-first m = latest-mono A B (blockers_of table i) (blockers_of table i) (each (blockers_of table i))
     where
       A : Access → Response
@@ -40,7 +40,7 @@ module _ (table : Table) (accepted : AcceptedTable table) (i : ℕ) (here : i < 
       → SixInOrder table i r
   unfolding response_of
   six-in-order r n e u x y c =
-      let s = is-sooner (answer_of table UcbUnion i) (answer_of table EcbUnion i) in
+      let s = is-sooner (counted_response table UcbUnion i) (counted_response table EcbUnion i) in
       record {
         none_is = n;
         ecb-only_is = e;
@@ -54,8 +54,8 @@ module _ (table : Table) (accepted : AcceptedTable table) (i : ℕ) (here : i < 
         combined_second = rw (c, y) s.second;
         none_least =
             rw (n, c)
-            (⊎_elim (λ f. subst (NoLater (answer_of table None i)) (sym f) (cheaper-first UcbUnion))
-            (λ f. subst (NoLater (answer_of table None i)) (sym f) (cheaper-first EcbUnion)) s.one);
+            (⊎_elim (λ f. subst (NoLater (counted_response table None i)) (sym f) (cheaper-first UcbUnion))
+            (λ f. subst (NoLater (counted_response table None i)) (sym f) (cheaper-first EcbUnion)) s.one);
       }
 
 -- an answer that is no later is no larger

@@ -18,7 +18,7 @@ use Rattle.analysis.specs.Analysis.{response_of}
 use Rattle.analysis.specs.declared.need.Need.{Need}
 use Rattle.analysis.specs.Needs.{need_of}
 use Rattle.analysis.proofs.NeedLaws.{response-needed, need-responds}
-use Rattle.report.specs.Explained.{Grounds}
+use Rattle.report.specs.Explained.{Explainable}
 use Rattle.report.proofs.Ranges.{needed}
 use Rattle.report.proofs.Truth.{explanation-adds-up}
 use Rattle.laws.specs.declared.explanations.Sum.{Sum}
@@ -26,7 +26,7 @@ use Rattle.laws.specs.declared.explanations.NeedAndResponse.{NeedAndResponse}
 use Rattle.laws.specs.declared.explanations.TwoNeeds.{TwoNeeds}
 use Rattle.laws.specs.declared.explanations.TwoExplanations.{TwoExplanations}
 use Rattle.laws.specs.Calls.{CallsAgree, SameRoom}
-use Rattle.laws.specs.Texts.{ReadsAs}
+use Rattle.crpd.specs.Meanings.{ReadsAs}
 use Rattle.laws.specs.Explanations.{adds_at, sum_of, AddsUp, IsNeededAsAnswered, NeededAlike, ExplainedAlike}
 use Rattle.laws.proofs.AnyWorker.{written-calls-agree}
 use Rattle.laws.proofs.AddedTables.{added-same}
@@ -34,14 +34,14 @@ use Rattle.laws.proofs.SameExplained.{unowned-needs}
 use Rattle.laws.proofs.TwoTexts.{explanations-same, added-names}
 use Rattle.analysis.specs.Same.{SameNamesDownTo}
 use Rattle.table.specs.declared.refusals.Refusal.{Refusal}
-use Rattle.crpd.specs.Operations.{TextWritten, TextExplained}
+use Rattle.crpd.specs.Operations.{WritesText, explanation_to}
 
 -- ---- one line
 
-pub blocked-short : {table : Table} {need : Need} {i : ℕ} → Grounds table need i → need.blocker.lasts.0 ≤ 250000000
+pub blocked-short : {table : Table} {need : Need} {i : ℕ} → Explainable table need i → need.blocker.lasts.0 ≤ 250000000
 blocked-short g = g.blocker.blocks.lasts
 
-module _ {table : Table} {need : Need} {i : ℕ} (g : Grounds table need i) {row : List Charge} (p : ChargedUnder table need.blocker need.method i 0 row)
+module _ {table : Table} {need : Need} {i : ℕ} (g : Explainable table need i) {row : List Charge} (p : ChargedUnder table need.blocker need.method i 0 row)
     (j : ℕ) (above : j < i) where
   pub line-few : reloads_in (charge_in row j) ≤ 2048
   line-few = (row-few table need.blocker need.method i p g.accepted).few j above
@@ -60,7 +60,7 @@ module _ {table : Table} {need : Need} {i : ℕ} (g : Grounds table need i) {row
 -- ---- the whole
 
 module _ (table : Table) (accepted : AcceptedTable table) (i : ℕ) (held : i < table.count) (m : Method) where
-  pub explained-grounds : (need : Need) → need ≡ need_of table m i → Grounds table need i
+  pub explained-grounds : (need : Need) → need ≡ need_of table m i → Explainable table need i
   explained-grounds need e = record { accepted = accepted; held = held; blocker = rw e (needed table accepted i held m).blocker }
 
   pub explained-time : (need : Need) (R : Ticks) → need ≡ need_of table m i → need.time ≡ Within R → R.0 ≤ 250000000
@@ -96,8 +96,8 @@ needed-alike first second m i r p q f s = record {
   above = λ n t h l. rw (f, s) (unowned-needs i first second (added-same n t first second h p q i l).same m);
 }
 
-pub explained-alike : (first second : List ℕ) (m i : ℕ) (before after before' after' : List ℕ) (r : TwoExplanations) → TextExplained first m i before r.first after
-    → TextExplained second m i before' r.second after' → ExplainedAlike first second m i before after before' after' r
+pub explained-alike : (first second : List ℕ) (m i : ℕ) (before after before' after' : List ℕ) (r : TwoExplanations) → WritesText 1348 (explanation_to first m i) before r.first after
+    → WritesText 1348 (explanation_to second m i) before' r.second after' → ExplainedAlike first second m i before after before' after' r
 explained-alike first second m i before after before' after' r f s = record {
   first_is = f;
   second_is = s;
@@ -108,4 +108,4 @@ explained-alike first second m i before after before' after' r f s = record {
     agree : (a b : Table) → ReadsAs first a → ReadsAs second b → SameNamesDownTo i a b → SameRoom 1348 before before' → CallsAgree r.first r.second before after before' after'
     agree a b p q h room =
         written-calls-agree f
-        (subst (λ (made : Result (List ℕ) Refusal). TextWritten 1348 made before' r.second after') (sym (explanations-same first second a b p q m i h)) s) room
+        (subst (λ (made : Result (List ℕ) Refusal). WritesText 1348 made before' r.second after') (sym (explanations-same first second a b p q m i h)) s) room

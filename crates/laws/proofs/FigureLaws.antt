@@ -22,7 +22,7 @@ use Rattle.analysis.specs.declared.costs.Charge.{Charge}
 use Rattle.analysis.specs.Costs.{charge_of, charge_at, reloads_with}
 use Rattle.analysis.specs.declared.Method.{Method}
 use Rattle.analysis.specs.declared.Method.TheVariants.{Of, Combined}
-use Rattle.analysis.specs.Analysis.{answer_of, response_of}
+use Rattle.analysis.specs.Analysis.{counted_response, response_of}
 use Rattle.analysis.specs.Figures.{Figure, figures, ChargeFigure, charge_figures}
 use Rattle.analysis.proofs.Figures.{figures-hold, charge-figures-hold}
 use Rattle.laws.specs.Figures.{unnamed, IsTableOf, IsFigured, IsChargeFigured}
@@ -49,8 +49,8 @@ module _ (figure table : Table) (like : IsTableOf figure table) where
   unfolding at
   same-tasks = fun_ext (λ k. sym (get_or-map unnamed (tasks_of table) k blank) ∙ ap (λ (ts : List Task). get_or ts k blank) like.tasks)
 
-  same-answer : (m : Single) (i : ℕ) → answer_of table m i ≡ answer_of figure m i
-  unfolding answer_of
+  same-answer : (m : Single) (i : ℕ) → counted_response table m i ≡ counted_response figure m i
+  unfolding counted_response
   same-answer m i =
       ap (λ (T : ℕ → Task). answer_by (ways_in table) T table.brt (accesses_of table) m i) same-tasks
       ∙ ap₂ (λ (brt : Ticks) (accesses : List Access). answer_by (ways_in table) (λ k. at figure k) brt accesses m i) like.brt like.accesses

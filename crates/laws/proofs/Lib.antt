@@ -7,9 +7,7 @@ pub mod AnyWorker
 mod LinesInOrder
 pub mod ExplanationLaws
 pub mod FigureLaws
-pub mod GrowthLaws
 pub mod OrderLaws
-pub mod ResponseLaws
 pub mod SolutionLaws
 pub mod TextLaws
 pub mod AddedTables

@@ -32,9 +32,9 @@ lines-same F G (suc n) same =
     flat_map-append F (run 0 n) ((0 + n) ∷ []) ∙ ap₂ (λ (xs ys : List ℕ). xs ++ (ys ++ [])) (lines-same F G n (λ j h. same j (omega arith))) (same (0 + n) (omega arith))
     ∙ sym (flat_map-append G (run 0 n) ((0 + n) ∷ []))
 
-victim-word : (names : ℕ → List ℕ) (g : Charge) → victim_text names g ≡ victim_told (45 ∷ []) names g
-victim-word names (Victim h) = refl
-victim-word names (NoVictim n) = refl
+victim-word : (table : Table) (g : Charge) → victim_text table g ≡ victim_told (45 ∷ []) (name_at table) g
+victim-word table (Victim h) = refl
+victim-word table (NoVictim n) = refl
 
 -- what the line of a task says, by its activations, its reloads and the name of the victim
 abbrev line_by : ℕ → Task → ℕ → List ℕ → List ℕ
@@ -81,18 +81,18 @@ module _ (i : ℕ) (first second : Table) (p : SameNamesDownTo i first second) w
   -- the line of a task above
   module _ (a b : Access) (owned : Owned a b) (m : Single) (R : ℕ) where
     one-line : (j : ℕ) → j < i
-        → reason_line (name_at first) R (at first j) (charge_under first a m i j) ≡ reason_line (name_at second) R (at second j) (charge_under second b m i j)
+        → reason_line first R j (charge_under first a m i j) ≡ reason_line second R j (charge_under second b m i j)
     unfolding reason_line
     one-line j above =
         let count = reloads-same i first second p.same a b owned.0 m j above in
-        let victim : victim_text (name_at first) (charge_under first a m i j) ≡ victim_text (name_at second) (charge_under second b m i j) =
-        victim-word (name_at first) (charge_under first a m i j)
+        let victim : victim_text first (charge_under first a m i j) ≡ victim_text second (charge_under second b m i j) =
+        victim-word first (charge_under first a m i j)
         ∙ victim-same i first second p.same a b owned.0 m j above (45 ∷ []) (name_at first) (name_at second) (λ k h. ap name_text (names-above k h)) (ap name_text owned.1)
-        ∙ sym (victim-word (name_at second) (charge_under second b m i j)) in
+        ∙ sym (victim-word second (charge_under second b m i j)) in
         λ k. line_by R (p.same.tasks j (omega arith) k) (count k) (victim k)
 
-    all-lines : flat_map (λ j. reason_line (name_at first) R (at first j) (charge_under first a m i j)) (hp i)
-        ≡ flat_map (λ j. reason_line (name_at second) R (at second j) (charge_under second b m i j)) (hp i)
+    all-lines : flat_map (λ j. reason_line first R j (charge_under first a m i j)) (hp i)
+        ≡ flat_map (λ j. reason_line second R j (charge_under second b m i j)) (hp i)
     all-lines = lines-same _ _ (i - 0) (λ j h. one-line j (omega arith))
 
   other-lines : (a b : Access) → Owned a b → (m : Single) (r : Response) → reason_lines first a m i r ≡ reason_lines second b m i r

@@ -1,6 +1,6 @@
 -- What is told of texts.
 use Rattle.std.proofs.Common.{ℕ, ◌≤◌, Bool, true, false, List, ◌++◌, length, take, drop, ◌≡◌, refl, sym, ap, ◌∙◌, arith, cond, ltb, Result, Ok, Err}
-use Rattle.std.proofs.lemmas.Bool.{ltb-false, le-ltb}
+use Rattle.std.proofs.lemmas.Bool.{ltb-false}
 use Rattle.std.proofs.Math.Seq.{take_at}
 use Rattle.search.specs.declared.demand.Response.{Response}
 use Rattle.search.specs.declared.demand.Response.TheVariants.{Within}
@@ -16,12 +16,10 @@ use Rattle.table_text.specs.Readable.{Readable}
 use Rattle.table_text.proofs.RoundTrip.{written-then-read}
 use Rattle.analysis.specs.declared.Method.{Method}
 use Rattle.analysis.specs.Analysis.{response_of}
-use Rattle.growth.specs.Growth.{growth_of}
-use Rattle.crpd.specs.Operations.{numbered, position_in, answer_to, growth_to, TextWritten, TextRewritten, TableWritten}
+use Rattle.crpd.specs.Operations.{numbered, position_in, answer_to, WritesText, rewritten, WritesTable}
 use Rattle.crpd.proofs.Easier.{easier-answers}
 use Rattle.laws.specs.declared.texts.TwoAnswers.{TwoAnswers}
-use Rattle.laws.specs.Texts.{EasierTextRespondsFirst, IsTextGrowth, ComesBack, IsReadAgain}
-use Rattle.laws.proofs.GrowthLaws.{is-growth}
+use Rattle.laws.specs.Texts.{EasierTextRespondsFirst, ComesBack, IsReadAgain}
 use Rattle.laws.proofs.TwoTexts.{no-other, answers-same}
 
 -- ---- two texts
@@ -48,29 +46,21 @@ easier-text-first first second m i r f s = record {
   same = λ a b p q h. f ∙ answers-same first second a b p q m i h ∙ sym s;
 }
 
--- ---- the growth
-
-pub text-growth : (text : List ℕ) (m : ℕ) (r : Result ℕ Refusal) → r ≡ growth_to text m → IsTextGrowth text m r
-unfolding growth_to
-text-growth text m r e table p h =
-    let k = growth_of (numbered m) table in
-    (k, e ∙ rw (le-ltb _ _ h, p), is-growth table (text, p) (numbered m) k refl)
-
 -- ---- there and back
 
 -- a text that fits is delivered
 fitting-made : {made : Result (List ℕ) Refusal} {most : ℕ} {text before after : List ℕ} {r : Result ℕ Refusal} → made ≡ Ok text → most ≤ length before
-    → TextWritten most made before r after → (r ≡ Ok (length text)) × (after ≡ text ++ drop (length text) before)
+    → WritesText most made before r after → (r ≡ Ok (length text)) × (after ≡ text ++ drop (length text) before)
 fitting-made {text = text} e h w =
     let f = fitting (omega (arith, w.short text e)) (record { answer = rw e at w.answer-is; buffer = rw e at w.buffer-is }) in
     (f.0, f.1.buffer-is)
 
 -- a text that is refused leaves the buffer
 refusal-left : {made : Result (List ℕ) Refusal} {most : ℕ} {before after : List ℕ} {r : Result ℕ Refusal} {refusal : Refusal} → made ≡ Err refusal
-    → TextWritten most made before r after → (r ≡ Err refusal) × (after ≡ before)
+    → WritesText most made before r after → (r ≡ Err refusal) × (after ≡ before)
 refusal-left e w = (rw e at w.answer-is, rw e at w.buffer-is)
 
-pub comes-back : (text before : List ℕ) (r : Result ℕ Refusal) (after : List ℕ) → 16384 ≤ length before → TextRewritten text before r after → ComesBack text before r after
+pub comes-back : (text before : List ℕ) (r : Result ℕ Refusal) (after : List ℕ) → 16384 ≤ length before → WritesText 16384 (rewritten text) before r after → ComesBack text before r after
 comes-back text before r after h w = record { accepted = λ table e. fitting-made (rw e) h w; refused = λ refusal e. let left = refusal-left (rw e) w in (left.0, rw e at (text-low text), left.1) }
 
 -- what reading says of the table that is read
@@ -80,20 +70,20 @@ read-back (Err r) read table e = absurd (no-other (sym e))
 
 module _ (table : Table) (before after : List ℕ) (room : 16384 ≤ length before) where
   -- a table that some text gives is not refused
-  not-refused : (e : Refusal) → Readable table → TableWritten table before (Err e) after → ⊥
+  not-refused : (e : Refusal) → Readable table → WritesTable table before (Err e) after → ⊥
   not-refused e readable w =
       let f = fitting-made (w.meant.given readable) room w.written in
       no-other (sym f.0)
 
   -- what is written of it reads as the table
-  reads-again : (n : ℕ) → Readable table → TableWritten table before (Ok n) after → read_text (take n after) ≡ Ok table
+  reads-again : (n : ℕ) → Readable table → WritesTable table before (Ok n) after → read_text (take n after) ≡ Ok table
   reads-again n readable w =
       let f = fitting-made (w.meant.given readable) room w.written in
       let all : n ≡ length (table_text table) = cc in
       rw (all, f.1, take_at (table_text table) (drop (length (table_text table)) before) (length (table_text table)) refl) (written-then-read table readable)
 
   -- where the table is written, it is then read
-  pub written-again : (n : ℕ) (old read : Table) (result : Result (Unit {0}) Refusal) → TableWritten table before (Ok n) after
+  pub written-again : (n : ℕ) (old read : Table) (result : Result (Unit {0}) Refusal) → WritesTable table before (Ok n) after
       → then_read result (λ _. Ok read) ≡ read_text (take n after) → IsReadAgain table old result read
   written-again n old read result w e = record {
     readable = λ readable. read-back result read table (e ∙ reads-again n readable w);
@@ -101,7 +91,7 @@ module _ (table : Table) (before after : List ℕ) (room : 16384 ≤ length befo
   }
 
   -- where it is refused, it has no text
-  pub refused-again : (e : Refusal) (old : Table) → TableWritten table before (Err e) after → IsReadAgain table old (Err e) old
+  pub refused-again : (e : Refusal) (old : Table) → WritesTable table before (Err e) after → IsReadAgain table old (Err e) old
   refused-again e old w = record {
     readable = λ readable. absurd (not-refused e readable w);
     refused = λ none.

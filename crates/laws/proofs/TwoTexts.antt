@@ -21,7 +21,7 @@ use Rattle.analysis.specs.Analysis.{response_of}
 use Rattle.analysis.proofs.SameLaws.{response-same}
 use Rattle.report.specs.Explanation.{explanation_of}
 use Rattle.crpd.specs.Operations.{method_named, position_in, answer_to, explanation_to}
-use Rattle.laws.specs.Texts.{ReadsAs}
+use Rattle.crpd.specs.Meanings.{ReadsAs}
 use Rattle.laws.specs.Added.{place_after, LineAdded, NoSoonerWithMore}
 use Rattle.laws.specs.declared.texts.TwoAnswers.{TwoAnswers}
 use Rattle.laws.proofs.AddedTables.{added-no-sooner, added-same, place-below, place-from, place-most, one-more}

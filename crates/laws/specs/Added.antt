@@ -10,7 +10,7 @@ use Rattle.table.specs.declared.Table.{Table}
 use Rattle.table.specs.Tables.{tasks_of, accesses_of}
 use Rattle.table.specs.Reading.{is_task_line}
 use Rattle.crpd.specs.Operations.{answer_to}
-use Rattle.laws.specs.Texts.{ReadsAs}
+use Rattle.crpd.specs.Meanings.{ReadsAs}
 use Rattle.laws.specs.declared.texts.TwoAnswers.{TwoAnswers}
 
 -- where the task at k stands with another one put in at p: from p on one further down

@@ -1,6 +1,7 @@
 -- When two calls of an operation agree.
 use Rattle.std.specs.Prelude.{ℕ, ◌≤◌, ◌≡◌, ◌⊎◌, List, ◌++◌, length, drop}
-use Rattle.crpd.specs.Operations.{answer_to, TextReported}
+use Rattle.writing.specs.declared.writer.TheConstants.{ROOM}
+use Rattle.crpd.specs.Operations.{answer_to, WritesText, report_to}
 use Rattle.laws.specs.declared.any_worker.Replies.{Replies}
 use Rattle.laws.specs.declared.any_worker.Reports.{Reports}
 
@@ -26,6 +27,6 @@ pub record AnsweredTwice (text : List ℕ) (m i : ℕ) (r : Replies) : Type 0 wh
   pub same : r.one ≡ r.other
 
 pub record ReportedTwice (text before after before' after' : List ℕ) (r : Reports) : Type 0 where
-  pub one : TextReported text before r.one after
-  pub other : TextReported text before' r.other after'
+  pub one : WritesText ROOM (report_to text) before r.one after
+  pub other : WritesText ROOM (report_to text) before' r.other after'
   pub agree : SameRoom 2746 before before' → CallsAgree r.one r.other before after before' after'

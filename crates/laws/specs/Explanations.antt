@@ -14,8 +14,9 @@ use Rattle.analysis.specs.declared.need.Need.{Need}
 use Rattle.analysis.specs.Needs.{need_of}
 use Rattle.analysis.specs.Same.{unowned_need, SameDownTo, SameNamesDownTo}
 use Rattle.report.specs.Explanation.{activations_in}
-use Rattle.crpd.specs.Operations.{TextExplained}
-use Rattle.laws.specs.Texts.{ReadsAs}
+use Rattle.crpd.specs.Operations.{WritesText, explanation_to}
+use Rattle.report.specs.declared.explanation.TheConstants.{LONGEST_EXPLANATION}
+use Rattle.crpd.specs.Meanings.{ReadsAs}
 use Rattle.laws.specs.Added.{TaskAdded, LineAdded}
 use Rattle.laws.specs.Calls.{CallsAgree, SameRoom}
 use Rattle.laws.specs.declared.explanations.Sum.{Sum}
@@ -56,8 +57,8 @@ pub record NeededAlike (first second : Table) (m : Method) (i : ℕ) (r : TwoNee
 -- the two explanations; where both texts are accepted and their tables are the same as far as i, down to the names of the tasks whose accesses may block it, the same
 -- lines are written of both, if there is room for them; and so they are for a task above a line that the second has more
 pub record ExplainedAlike (first second : List ℕ) (m i : ℕ) (before after before' after' : List ℕ) (r : TwoExplanations) : Type 0 where
-  pub first_is : TextExplained first m i before r.first after
-  pub second_is : TextExplained second m i before' r.second after'
-  pub same : (a b : Table) → ReadsAs first a → ReadsAs second b → SameNamesDownTo i a b → SameRoom 1348 before before' → CallsAgree r.first r.second before after before' after'
+  pub first_is : WritesText LONGEST_EXPLANATION (explanation_to first m i) before r.first after
+  pub second_is : WritesText LONGEST_EXPLANATION (explanation_to second m i) before' r.second after'
+  pub same : (a b : Table) → ReadsAs first a → ReadsAs second b → SameNamesDownTo i a b → SameRoom LONGEST_EXPLANATION before before' → CallsAgree r.first r.second before after before' after'
   pub above : (p : ℕ) (a b : Table) → ReadsAs first a → ReadsAs second b → LineAdded p first second → i < p
-      → SameRoom 1348 before before' → CallsAgree r.first r.second before after before' after'
+      → SameRoom LONGEST_EXPLANATION before before' → CallsAgree r.first r.second before after before' after'

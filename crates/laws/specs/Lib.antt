@@ -6,9 +6,7 @@ pub mod Calls
 pub mod Lines
 pub mod Explanations
 pub mod Figures
-pub mod Growths
 pub mod Orders
-pub mod Responses
 pub mod Solutions
 pub mod Texts
 pub mod Added

@@ -10,13 +10,9 @@ use Rattle.table.specs.Reading.{read_text}
 use Rattle.analysis.specs.Harder.{Harder}
 use Rattle.analysis.specs.Same.{SameDownTo}
 use Rattle.table_text.specs.Readable.{Readable}
-use Rattle.crpd.specs.Operations.{numbered, answer_to}
-use Rattle.laws.specs.Growths.{IsGrowth}
+use Rattle.crpd.specs.Operations.{answer_to}
+use Rattle.crpd.specs.Meanings.{ReadsAs}
 use Rattle.laws.specs.declared.texts.TwoAnswers.{TwoAnswers}
-
--- the text is accepted as this table
-abbrev pub ReadsAs : List ℕ → Table → Type 0
-ReadsAs text table = read_text text ≡ Ok table
 
 -- the two answers; and where both texts are accepted and the second's table is harder, line by line: if the second has a response, the first has one, and it is no
 -- larger; and where their tables are the same as far as i, they are the same
@@ -26,10 +22,6 @@ pub record EasierTextRespondsFirst (first second : List ℕ) (m i : ℕ) (r : Tw
   pub harder : (a b : Table) → ReadsAs first a → ReadsAs second b → Harder a b
       → (R : Ticks) → r.second ≡ Ok (Within R) → (S : Ticks) × (r.first ≡ Ok (Within S)) × (S.0 ≤ R.0)
   pub same : (a b : Table) → ReadsAs first a → ReadsAs second b → SameDownTo i a b → r.first ≡ r.second
-
--- of an accepted text and a method that there is, the growth of its table
-abbrev pub IsTextGrowth : List ℕ → ℕ → Result ℕ Refusal → Type 0
-IsTextGrowth text m r = (table : Table) → ReadsAs text table → m ≤ 5 → (k : ℕ) × (r ≡ Ok k) × IsGrowth table (numbered m) k
 
 -- of an accepted text the same bytes stand at the buffer's start, and after them the buffer is as it was; of another its refusal is told,
 -- which is one of the numbers of texts, and the buffer is left

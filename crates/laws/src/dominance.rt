@@ -1,12 +1,11 @@
 // Which of the methods never answers later than which.
-ghost use Rattle.std.specs.Prelude.{◌≡◌, ◌<◌, true};
-ghost use Rattle.table.specs.Accepted.{AcceptedTable};
+ghost use Rattle.std.specs.Prelude.{◌≡◌, true};
 ghost use Rattle.laws.specs.Dominance.{exceeds, SixInOrder};
 
 use analysis::Method;
 use analysis::costs::Single;
 use search::demand::Response;
-use table::Table;
+use table::accepted::Pending;
 
 // The responses of a task under the six methods.
 #[derive(Clone, Copy)]
@@ -32,27 +31,25 @@ fn exceeds(a: Response, b: Response) -> bool
     y.0 < x.0
 }
 
-// The six responses of the task at i: UCB-Union is never larger than ECB-Only, ECB-Union never larger than UCB-Only, and combined never larger than either union.
-pub fn under_all(table: &Table, i: usize) -> Six
-    requires { AcceptedTable table.now × (i < table.now.count) }
-    ensures { SixInOrder table.now i result }
+// The six responses of a task: UCB-Union is never larger than ECB-Only, ECB-Union never larger than UCB-Only, and combined never larger than either union.
+pub fn under_all(pending: Pending) -> Six
+    ensures { SixInOrder pending.entry.table.now pending.entry.i result }
 {
     Six {
-        none: analysis::respond(table, Method::Of(Single::None), i),
-        ecb_only: analysis::respond(table, Method::Of(Single::EcbOnly), i),
-        ucb_only: analysis::respond(table, Method::Of(Single::UcbOnly), i),
-        ucb_union: analysis::respond(table, Method::Of(Single::UcbUnion), i),
-        ecb_union: analysis::respond(table, Method::Of(Single::EcbUnion), i),
-        combined: analysis::respond(table, Method::Combined, i),
+        none: analysis::respond(pending, Method::Of(Single::None)),
+        ecb_only: analysis::respond(pending, Method::Of(Single::EcbOnly)),
+        ucb_only: analysis::respond(pending, Method::Of(Single::UcbOnly)),
+        ucb_union: analysis::respond(pending, Method::Of(Single::UcbUnion)),
+        ecb_union: analysis::respond(pending, Method::Of(Single::EcbUnion)),
+        combined: analysis::respond(pending, Method::Combined),
     }
 }
 
 // Whether they stand in this order: they always do.
-pub fn are_in_order(table: &Table, i: usize) -> bool
-    requires { AcceptedTable table.now × (i < table.now.count) }
+pub fn are_in_order(pending: Pending) -> bool
     ensures { result ≡ true }
 {
-    let six = under_all(table, i);
+    let six = under_all(pending);
     !exceeds(six.ucb_union, six.ecb_only)
         & !exceeds(six.ecb_union, six.ucb_only)
         & !exceeds(six.combined, six.ucb_union)

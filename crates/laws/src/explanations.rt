@@ -1,14 +1,13 @@
 // What an explanation says is true of the equation.
 ghost use Rattle.std.specs.Prelude.{◌≡◌, ◌<◌, ◌≤◌};
-ghost use Rattle.table.specs.Accepted.{AcceptedTable};
-ghost use Rattle.report.specs.Explained.{Grounds};
+ghost use Rattle.report.specs.Explained.{Explainable};
 ghost use Rattle.laws.specs.Explanations.{sum_of, AddsUp, IsNeededAsAnswered, NeededAlike, ExplainedAlike};
 
 use analysis::need::Need;
 use analysis::{Method, blocked_row, costs, need, one_row};
 use cache::units::Ticks;
 use search::demand::Response;
-use table::Table;
+use table::accepted::{Accepted, Pending};
 use table::refusals::Refusal;
 
 // What a task needs, and what the lines of its explanation add up to; 0 where the need is beyond.
@@ -40,54 +39,52 @@ pub struct TwoExplanations {
 }
 
 // C and the length as they are shown, and for each task above its activations in `r` ticks, each with its work and the time of its reloads.
-fn total_of(table: &Table, need: &Need, i: usize, r: u64) -> u64
-    requires { (r ≤ 250000000) × Grounds table.now need.now i }
-    ensures { result ≡ sum_of table.now need.now i r }
+fn total_of(pending: Pending, need: &Need, r: u64) -> u64
+    requires { (r ≤ 250000000) × Explainable pending.table.now need.now pending.i }
+    ensures { result ≡ sum_of pending.entry.table.now need.now pending.entry.i r }
 {
-    let mut row = one_row::charged(table, need.method, i);
-    blocked_row::join(table, need.method, i, &need.blocker, &mut row);
-    let mut total = table.task(i).work.0 + need.blocker.lasts.0;
-    for j in 0..i {
-        total += costs::term(table, j, row[j].count()).work(r);
+    let mut row = one_row::charged(pending, need.method);
+    blocked_row::join(pending, need.method, &need.blocker, &mut row);
+    let mut total = pending.task().work.0 + need.blocker.lasts.0;
+    for j in 0..pending.i {
+        total += costs::term(pending, j, row[j].count()).work(r);
     }
     total
 }
 
 // What explains the answer of a method for the task at i: its lines add up to it.
-pub fn total(table: &Table, method: Method, i: usize) -> Sum
-    requires { AcceptedTable table.now × (i < table.now.count) }
-    ensures { AddsUp table.now method i result }
+pub fn total(pending: Pending, method: Method) -> Sum
+    ensures { AddsUp pending.entry.table.now method pending.entry.i result }
 {
-    let need = need::explained(table, method, i);
+    let need = need::explained(pending, method);
     let Response::Within(time) = need.time else {
         return Sum {
             need,
             total: Ticks(0),
         };
     };
-    let total = Ticks(total_of(table, &need, i, time.0));
+    let total = Ticks(total_of(pending, &need, time.0));
     Sum { need, total }
 }
 
 // What explains the answer of a method for the task at i, and the answer.
-pub fn need_and_response(table: &Table, method: Method, i: usize) -> NeedAndResponse
-    requires { AcceptedTable table.now × (i < table.now.count) }
-    ensures { IsNeededAsAnswered table.now method i result }
+pub fn need_and_response(pending: Pending, method: Method) -> NeedAndResponse
+    ensures { IsNeededAsAnswered pending.entry.table.now method pending.entry.i result }
 {
     NeedAndResponse {
-        need: need::explained(table, method, i),
-        response: analysis::respond(table, method, i),
+        need: need::explained(pending, method),
+        response: analysis::respond(pending, method),
     }
 }
 
 // What explains the answer of a method for the task at i, in each of two tables.
-pub fn two_needs(first: &Table, second: &Table, method: Method, i: usize) -> TwoNeeds
-    requires { AcceptedTable first.now × AcceptedTable second.now × (i < first.now.count) × (i < second.now.count) }
-    ensures { NeededAlike first.now second.now method i result }
+pub fn two_needs(first: Accepted, second: Accepted, method: Method, i: usize) -> TwoNeeds
+    requires { (i < first.table.now.count) × (i < second.table.now.count) }
+    ensures { NeededAlike first.entry.table.now second.entry.table.now method i result }
 {
     TwoNeeds {
-        first: need::explained(first, method, i),
-        second: need::explained(second, method, i),
+        first: need::explained(first.pending(i), method),
+        second: need::explained(second.pending(i), method),
     }
 }
 

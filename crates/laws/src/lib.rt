@@ -12,8 +12,6 @@ pub mod any_worker;
 pub mod dominance;
 pub mod explanations;
 pub mod figures;
-pub mod growths;
 pub mod orders;
-pub mod responses;
 pub mod solutions;
 pub mod texts;

@@ -4,7 +4,6 @@ ghost use Rattle.table.specs.declared.accesses.Access.{Access};
 ghost use Rattle.analysis.specs.declared.costs.Single.{Single};
 ghost use Rattle.search.specs.Demand.{demand_of};
 ghost use Rattle.search.specs.Terms.{term_in};
-ghost use Rattle.table.specs.Accepted.{AcceptedTable};
 ghost use Rattle.analysis.specs.Analysis.{response_of};
 ghost use Rattle.laws.specs.Permutations.{EachOnce};
 ghost use Rattle.laws.specs.Equation.{Arrangement, response_arranged};
@@ -13,7 +12,7 @@ ghost use Rattle.laws.specs.Orders.{Addable, EasierRespondsFirst};
 use analysis::Method;
 use cache::units::Ticks;
 use search::demand::{Response, Term};
-use table::Table;
+use table::accepted::Pending;
 
 // The responses of a task of a table, and of one of another table.
 #[derive(Clone, Copy)]
@@ -22,30 +21,22 @@ pub struct TwoResponses {
     pub second: Response,
 }
 
-// The response of the task at i in the first table, and that of the task at k in the second.
-pub fn in_two_tables(
-    first: &Table,
-    i: usize,
-    second: &Table,
-    k: usize,
-    method: Method,
-) -> TwoResponses
-    requires { AcceptedTable first.now × AcceptedTable second.now × (i < first.now.count) × (k < second.now.count) }
-    ensures { EasierRespondsFirst first.now i second.now k method result }
+// The response of a task of one table, and that of one of another table.
+pub fn in_two_tables(first: Pending, second: Pending, method: Method) -> TwoResponses
+    ensures { EasierRespondsFirst first.entry.table.now first.entry.i second.entry.table.now second.entry.i method result }
 {
     TwoResponses {
-        first: analysis::respond(first, method, i),
-        second: analysis::respond(second, method, k),
+        first: analysis::respond(first, method),
+        second: analysis::respond(second, method),
     }
 }
 
 // The response of the task at i: it is what comes out where the tasks of each sum, union and largest value are gone through in any order.
-pub fn in_any_order(table: &Table, method: Method, i: usize) -> Response
-    requires { AcceptedTable table.now × (i < table.now.count) }
-    ensures value { result ≡ response_of table.now method i }
-    ensures any { (arranged : Single → Access → ℕ → Arrangement i) → result ≡ response_arranged table.now method i arranged }
+pub fn in_any_order(pending: Pending, method: Method) -> Response
+    ensures value { result ≡ response_of pending.entry.table.now method pending.entry.i }
+    ensures any { (arranged : Single → Access → ℕ → Arrangement pending.entry.i) → result ≡ response_arranged pending.entry.table.now method pending.entry.i arranged }
 {
-    analysis::respond(table, method, i)
+    analysis::respond(pending, method)
 }
 
 // The demand at `r`, with the terms taken in this order.

@@ -1,7 +1,5 @@
 // The same of table texts, where nothing is asked of the caller; and how texts and tables come back.
-ghost use Rattle.std.specs.Prelude.{◌≡◌};
-ghost use Rattle.crpd.specs.Operations.{growth_to};
-ghost use Rattle.laws.specs.Texts.{EasierTextRespondsFirst, IsTextGrowth, ComesBack, IsReadAgain};
+ghost use Rattle.laws.specs.Texts.{EasierTextRespondsFirst, ComesBack, IsReadAgain};
 
 use search::demand::Response;
 use table::Table;
@@ -22,14 +20,6 @@ pub fn of_two_texts(first: &[u8], second: &[u8], method: u64, position: u64) -> 
         first: crpd::answer(first, method, position),
         second: crpd::answer(second, method, position),
     }
-}
-
-// The growth that is left of a text under a method.
-pub fn growth_left(text: &[u8], method: u64) -> Result<u64, Refusal>
-    ensures value { result ≡ growth_to text.now method }
-    ensures means { IsTextGrowth text.now method result }
-{
-    crpd::growth(text, method)
 }
 
 // A text, read and then written into a buffer that no accepted text is too long for; or why it is refused.

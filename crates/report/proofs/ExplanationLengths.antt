@@ -28,7 +28,7 @@ use Rattle.writing.specs.Text.{spelled}
 use Rattle.writing.proofs.Spelling.{spelled_short}
 use Rattle.report.proofs.Lists.{flat_map-more}
 use Rattle.report.specs.Explanation.{method_number, needed_text, need_line, activations_in, name_at, victim_text, reason_line, reason_lines, explanation_of}
-use Rattle.report.specs.Explained.{NeedInRange, Blocker, victim_in}
+use Rattle.report.specs.Explained.{NeedInRange, IsBlocker, VictimBelow}
 use Rattle.report.proofs.ExplanationParts.{nine-digits, needed-short, victim-below}
 use Rattle.report.proofs.Ranges.{Needed, needed}
 use Rattle.report.proofs.Truth.{adds_at, explanation-adds-up}
@@ -65,21 +65,21 @@ need-length : (t : Task) (need : Need)
 unfolding need_line
 need-length t need = simp length-append (omega arith)
 
-reason-length : (names : ℕ → List ℕ) (R : ℕ) (t : Task) (charge : Charge)
-    → length (reason_line names R t charge)
-    ≡ 6 + length (name_text t.name) + length (spelled (activations_in R t)) + length (spelled (reloads_in charge)) + length (victim_text names charge)
+reason-length : (table : Table) (R j : ℕ) (charge : Charge)
+    → length (reason_line table R j charge)
+    ≡ 6 + length (name_at table j) + length (spelled (activations_in R (at table j))) + length (spelled (reloads_in charge)) + length (victim_text table charge)
 unfolding reason_line
-reason-length names R t charge = simp length-append (omega arith)
-
-victim-short : (names : ℕ → List ℕ) (none : ℕ) (charge : Charge) → length (names (victim_in none charge)) ≤ 12 → length (victim_text names charge) ≤ 12
-victim-short names none (Victim h) p = p
-victim-short names none (NoVictim n) p = omega arith
+reason-length table R j charge = simp length-append (omega arith)
 
 -- ---- the lines of an accepted table
 
 module _ (table : Table) (accepted : AcceptedTable table) (i : ℕ) (held : i < table.count) where
   named-short : (k : ℕ) → k < table.count → length (name_at table k) ≤ 12
   named-short k l = name-short (name_at table k) (accepted.tasks k l).name
+
+  victim-short : (charge : Charge) → VictimBelow table.count charge → length (victim_text table charge) ≤ 12
+  victim-short (Victim h) below = named-short h.victim below
+  victim-short (NoVictim n) below = omega arith
 
   first-cost : (need : Need) → NeedInRange need → 9000000 * length (need_line (at table i) need) ≤ 475000000 + ((at table i).work.0 + need.blocker.lasts.0)
   first-cost need p =
@@ -96,8 +96,8 @@ module _ (table : Table) (accepted : AcceptedTable table) (i : ℕ) (held : i < 
         digits-cost need.blocker.lasts.0 (omega (arith, p.lasts)),
       )
 
-  module _ (a : Access) (blocker : Blocker table i a) (m : Single) (R : ℕ) (soon : R ≤ 250000000) where
-    line-cost : (j : ℕ) → j < i → 9000000 * length (reason_line (name_at table) R (at table j) (charge_under table a m i j)) ≤ 368000000 + activations_in R (at table j)
+  module _ (a : Access) (blocker : IsBlocker table i a) (m : Single) (R : ℕ) (soon : R ≤ 250000000) where
+    line-cost : (j : ℕ) → j < i → 9000000 * length (reason_line table R j (charge_under table a m i j)) ≤ 368000000 + activations_in R (at table j)
     unfolding reloads_with
     line-cost j l =
         let t = at table j in
@@ -106,22 +106,22 @@ module _ (table : Table) (accepted : AcceptedTable table) (i : ℕ) (held : i < 
         let few : activations_in R t ≤ 500000000 = ceil-most (R + t.jitter.0) 500000000 t.period.0 q.period.0 (omega (arith, q.jitter, q.deadline, q.period)) in
         omega (
           arith,
-          reason-length (name_at table) R t charge,
+          reason-length table R j charge,
           named-short j (omega arith),
           digits-cost (activations_in R t) (omega arith),
           spelled_short 3 (reloads_in charge) (omega (arith, under-most table a m i j accepted)),
-          victim-short (name_at table) j charge (named-short (victim_in j charge) (victim-below (ways_in table) (ucb_of table) (ecb_of table) (added_by (ways_in table) a j) a.task table.count m i j l held blocker.task)),
+          victim-short charge (victim-below (ways_in table) (ucb_of table) (ecb_of table) (added_by (ways_in table) a j) a.task table.count m i j l held blocker.task),
         )
 
     abbrev lines : ℕ → List ℕ
-    lines n = flat_map (λ j. reason_line (name_at table) R (at table j) (charge_under table a m i j)) (hp n)
+    lines n = flat_map (λ j. reason_line table R j (charge_under table a m i j)) (hp n)
 
     abbrev activated : ℕ → ℕ → ℕ
     activated own n = fold_by ◌+◌ own (λ j. activations_in R (at table j)) (hp n)
 
-    lines_next : (n : ℕ) → length (lines (n + 1)) ≡ length (lines n) + length (reason_line (name_at table) R (at table n) (charge_under table a m i n))
+    lines_next : (n : ℕ) → length (lines (n + 1)) ≡ length (lines n) + length (reason_line table R n (charge_under table a m i n))
     lines_next n =
-        ap length (sym (flat_map-more (λ j. reason_line (name_at table) R (at table j) (charge_under table a m i j)) n)) ∙ length-append (lines n) _
+        ap length (sym (flat_map-more (λ j. reason_line table R j (charge_under table a m i j)) n)) ∙ length-append (lines n) _
 
     activated-next : (own n : ℕ) → activated own (n + 1) ≡ activated own n + activations_in R (at table n)
     activated-next own n = sym (fold_next ◌+◌ own (λ j. activations_in R (at table j)) 0 n _ _ zero-le refl refl)

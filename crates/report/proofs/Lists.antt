@@ -1,8 +1,8 @@
 -- Lists over positions and over the numbers of the methods: one position more, and functions that agree.
-use Rattle.std.proofs.Common.{◌≡◌, refl, sym, ap, ◌∙◌, ℕ, zero, suc, ◌+◌, ◌<◌, ◌≤◌, eq-or-lt_of_le, arith, inl, inr, add-one, length, take, set, get_or, length-append, take-suc-set}
+use Rattle.std.proofs.Common.{◌≡◌, refl, sym, ap, ◌∙◌, ℕ, zero, suc, ◌+◌, ◌<◌, ◌≤◌, eq-or-lt_of_le, arith, inl, inr, add-one, length, take, set, length-append, take-suc-set}
 use Rattle.std.specs.Prelude.{List, ◌++◌, map, flat_map}
 use Rattle.search.specs.Positions.{run, between}
-use Rattle.search.proofs.PositionLaws.{map_next, map_at, map_same}
+use Rattle.search.proofs.PositionLaws.{map_next, map_same}
 use Rattle.std.proofs.lemmas.List.Folds.{flat_map-map}
 use Rattle.writing.proofs.Room.{flat_map-snoc}
 use Rattle.report.specs.Verdicts.{method_numbers}

@@ -1,20 +1,21 @@
 -- The verdict line depends on nothing but the answers of the tasks under the six methods.
-use Rattle.std.specs.Prelude.{List, [], ◌∷◌}
+use Rattle.std.specs.Prelude.{List, codes}
 use Rattle.std.proofs.Common.{length, take, length-take-le, ◌≡◌, sym, ap, ◌∙◌, true, ◌&&◌, ℕ, ◌-◌, ◌<◌, ◌≤◌, arith}
 use Rattle.std.proofs.Math.Seq.{get_or-take}
-use Rattle.search.specs.declared.demand.Row.{Row}
+use Rattle.analysis.specs.declared.rows.Row.{Row}
 use Rattle.search.specs.declared.demand.Response.{Response}
 use Rattle.search.specs.Positions.{fold_by}
 use Rattle.search.proofs.PositionLaws.{fold_same}
 use Rattle.writing.specs.Text.{line_of, yes_no}
-use Rattle.report.specs.Verdicts.{has_response, verdict, every_verdict, verdict_line}
+use Rattle.analysis.specs.Verdict.{has_response, verdict}
+use Rattle.report.specs.Verdicts.{every_verdict, verdict_line}
 use Rattle.report.specs.VerdictRows.{blank_row, answer_under, answers_in}
 use Rattle.report.proofs.Lists.{methods-are, methods-same}
 
 pub verdict-line-agrees : (n : ℕ) (f g : ℕ → ℕ → Response) → ((m i : ℕ) → m < 6 → i < n → f m i ≡ g m i) → verdict_line n f ≡ verdict_line n g
 unfolding verdict_line
 verdict-line-agrees n f g h =
-    ap (λ (texts : List (List ℕ)). line_of (86 ∷ []) texts)
+    ap (λ (texts : List (List ℕ)). line_of (codes "V") texts)
     (methods-same (λ m. yes_no (verdict n (f m))) (λ m. yes_no (verdict n (g m)))
     (λ m k. ap yes_no (fold_same ◌&&◌ true (λ i. has_response (f m i)) (λ i. has_response (g m i)) 0 (n - 0) (λ i _ l. ap has_response (h m i k (omega arith))))))
 

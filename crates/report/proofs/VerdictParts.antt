@@ -3,10 +3,10 @@ use Rattle.std.proofs.Common.{◌≡◌, refl, sym, ap, ◌∙◌, ℕ, zero, su
 use Rattle.std.specs.List.{list_all}
 use Rattle.std.proofs.lemmas.List.Folds.{list_all_more}
 use Rattle.std.proofs.Math.Seq.{take_all}
-use Rattle.search.specs.declared.demand.Row.{Row}
+use Rattle.analysis.specs.declared.rows.Row.{Row}
 use Rattle.search.specs.Positions.{run, fold_by}
 use Rattle.search.proofs.PositionLaws.{fold_next}
-use Rattle.report.specs.Verdicts.{has_response, verdict}
+use Rattle.analysis.specs.Verdict.{has_response, verdict}
 use Rattle.report.specs.VerdictRows.{blank_row, answer_under, answers_in}
 
 module _ (rows : List Row) (m : ℕ) where

@@ -1,5 +1,6 @@
 -- What the writer of an explanation promises, and what its parts are handed.
 use Rattle.std.specs.Prelude.{ℕ, ◌≤◌, ◌<◌, List, length, Result}
+use Rattle.cache.specs.declared.units.TheConstants.Ticks.{LONGEST}
 use Rattle.search.specs.Least.{AnswerInRange}
 use Rattle.table.specs.declared.tasks.Task.{Task}
 use Rattle.table.specs.declared.accesses.Access.{Access}
@@ -8,42 +9,43 @@ use Rattle.analysis.specs.declared.costs.Charge.{Charge}
 use Rattle.analysis.specs.declared.costs.Charge.TheVariants.{Victim, NoVictim}
 use Rattle.table.specs.Accepted.{AcceptedTable}
 use Rattle.analysis.specs.declared.Method.{Method}
-use Rattle.analysis.specs.Analysis.{Blocks}
+use Rattle.analysis.specs.Analysis.{MayBlock}
 use Rattle.analysis.specs.declared.need.Need.{Need}
 use Rattle.table.specs.declared.refusals.Refusal.{Refusal}
-use Rattle.writing.specs.Delivery.{Delivered}
+use Rattle.writing.specs.Delivery.{DeliversText}
 use Rattle.report.specs.Explanation.{explanation_of}
+use Rattle.report.specs.declared.explanation.TheConstants.{LONGEST_EXPLANATION}
 
--- the explanation is delivered, and it is never longer than 1,348 bytes
-pub record Explained (table : Table) (m : Method) (i : ℕ) (before : List ℕ) (written : Result ℕ Refusal) (after : List ℕ) : Type 0 where
-  pub delivered : Delivered (explanation_of table m i) before written after
-  pub short : length (explanation_of table m i) ≤ 1348
+-- the explanation is delivered, and it is never longer than that
+pub record DeliversExplanation (table : Table) (m : Method) (i : ℕ) (before : List ℕ) (written : Result ℕ Refusal) (after : List ℕ) : Type 0 where
+  pub delivered : DeliversText (explanation_of table m i) before written after
+  pub short : length (explanation_of table m i) ≤ LONGEST_EXPLANATION
 
 -- a need of a task: what is needed is in range, and so is for how long the task is blocked
 pub record NeedInRange (need : Need) : Type 0 where
   pub time : AnswerInRange need.time
-  pub lasts : need.blocker.lasts.0 ≤ 250000000
+  pub lasts : need.blocker.lasts.0 ≤ LONGEST
 
 -- a task's times are no longer than the longest deadline, and it has a period
-pub record Timed (t : Task) : Type 0 where
-  pub work : t.work.0 ≤ 250000000
+pub record TaskInRange (t : Task) : Type 0 where
+  pub work : t.work.0 ≤ LONGEST
   pub period : 1 ≤ t.period.0
-  pub period-most : t.period.0 ≤ 250000000
+  pub period-most : t.period.0 ≤ LONGEST
   pub deadline : t.deadline.0 ≤ t.period.0
   pub jitter : t.jitter.0 ≤ t.deadline.0
 
--- the position of a charge's victim, or another where it has none
-abbrev pub victim_in : ℕ → Charge → ℕ
-victim_in none (Victim h) = h.victim
-victim_in none (NoVictim n) = none
+-- the task that a charge hits, if it hits a single one, is one of so many
+abbrev pub VictimBelow : ℕ → Charge → Type 0
+VictimBelow count (Victim h) = h.victim < count
+VictimBelow count (NoVictim n) = Unit {0}
 
 -- what blocks the task at i in an explanation: an access that may, of a task of the table
-pub record Blocker (table : Table) (i : ℕ) (a : Access) : Type 0 where
-  pub blocks : Blocks i a
+pub record IsBlocker (table : Table) (i : ℕ) (a : Access) : Type 0 where
+  pub blocks : MayBlock a i
   pub task : a.task < table.count
 
 -- what the reasons are taken from: an accepted table, a task's position, and what blocks it
-pub record Grounds (table : Table) (need : Need) (i : ℕ) : Type 0 where
+pub record Explainable (table : Table) (need : Need) (i : ℕ) : Type 0 where
   pub accepted : AcceptedTable table
   pub held : i < table.count
-  pub blocker : Blocker table i need.blocker
+  pub blocker : IsBlocker table i need.blocker

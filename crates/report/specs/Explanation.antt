@@ -1,5 +1,5 @@
 -- The explanation of a figure as bytes.
-use Rattle.std.specs.Prelude.{ℕ, ◌+◌, List, [], ◌∷◌, ◌++◌, flat_map}
+use Rattle.std.specs.Prelude.{ℕ, ◌+◌, List, [], ◌∷◌, ◌++◌, flat_map, codes}
 use Rattle.search.specs.declared.demand.Response.{Response}
 use Rattle.search.specs.declared.demand.Response.TheVariants.{Within, Unschedulable}
 use Rattle.search.specs.Positions.{hp}
@@ -22,7 +22,7 @@ use Rattle.writing.specs.Text.{spelled, line_of}
 -- what is needed, or `beyond`
 abbrev pub needed_text : Response → List ℕ
 needed_text (Within R) = spelled R.0
-needed_text Unschedulable = 98 ∷ 101 ∷ 121 ∷ 111 ∷ 110 ∷ 100 ∷ []
+needed_text Unschedulable = codes "beyond"
 
 -- the number by which a caller names a method that counts
 abbrev pub method_number : Single → ℕ
@@ -35,7 +35,7 @@ method_number EcbUnion = 4
 -- the first line: `X`, name, method explained, need, D − J, C, and for how long an access blocks the task, 0 where none does
 unfoldable pub need_line : Task → Need → List ℕ
 need_line t need =
-    line_of (88 ∷ [])
+    line_of (codes "X")
     (name_text t.name
     ∷ spelled (method_number need.method)
     ∷ needed_text need.time
@@ -52,19 +52,19 @@ activations_in R t = ceil (R + t.jitter.0) t.period.0
 abbrev pub name_at : Table → ℕ → List ℕ
 name_at table k = name_text (at table k).name
 
--- the name of the victim, where `names` has that of each position, or `-` where there is no victim
-abbrev pub victim_text : (ℕ → List ℕ) → Charge → List ℕ
-victim_text names (Victim h) = names h.victim
-victim_text names (NoVictim n) = 45 ∷ []
+-- the name of the task that a charge hits, or `-` where it hits no single one
+abbrev pub victim_text : Table → Charge → List ℕ
+victim_text table (Victim h) = name_at table h.victim
+victim_text table (NoVictim n) = codes "-"
 
--- the line of a task above: `I`, name, activations in R ticks, and the reloads that each is charged with their victim
-unfoldable pub reason_line : (ℕ → List ℕ) → ℕ → Task → Charge → List ℕ
-reason_line names R t charge =
-    line_of (73 ∷ []) (name_text t.name ∷ spelled (activations_in R t) ∷ spelled (reloads_in charge) ∷ victim_text names charge ∷ [])
+-- the line of the task at j, above: `I`, name, activations in R ticks, and the reloads that each is charged with their victim
+unfoldable pub reason_line : Table → ℕ → ℕ → Charge → List ℕ
+reason_line table R j charge =
+    line_of (codes "I") (name_at table j ∷ spelled (activations_in R (at table j)) ∷ spelled (reloads_in charge) ∷ victim_text table charge ∷ [])
 
 -- the lines of the tasks above i under method m while an access blocks i, from position 0 down; none where the need is beyond
 abbrev pub reason_lines : Table → Access → Single → ℕ → Response → List ℕ
-reason_lines table a m i (Within R) = flat_map (λ j. reason_line (name_at table) R.0 (at table j) (charge_under table a m i j)) (hp i)
+reason_lines table a m i (Within R) = flat_map (λ j. reason_line table R.0 j (charge_under table a m i j)) (hp i)
 reason_lines table a m i Unschedulable = []
 
 -- the explanation of what the task at i needs

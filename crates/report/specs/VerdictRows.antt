@@ -2,7 +2,7 @@
 use Rattle.std.specs.Prelude.{ℕ, List, [], slice_index_or}
 use Rattle.search.specs.declared.demand.Response.{Response}
 use Rattle.search.specs.declared.demand.Response.TheVariants.{Within}
-use Rattle.search.specs.declared.demand.Row.{Row}
+use Rattle.analysis.specs.declared.rows.Row.{Row}
 
 -- what stands past the end of a row and of the rows: no statement rests on it
 abbrev pub blank_answer : Response

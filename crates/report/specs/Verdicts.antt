@@ -1,26 +1,18 @@
 -- The verdicts of the methods, and the last line of the report as bytes. In it `answers m i` is what method m answers for the task at position i.
-use Rattle.std.specs.Prelude.{ℕ, Bool, true, false, ◌&&◌, List, [], ◌∷◌, map}
+use Rattle.std.specs.Prelude.{ℕ, Bool, true, ◌&&◌, List, [], ◌∷◌, map, codes}
 use Rattle.search.specs.declared.demand.Response.{Response}
-use Rattle.search.specs.declared.demand.Response.TheVariants.{Within, Unschedulable}
-use Rattle.search.specs.Positions.{between, fold_by}
+use Rattle.search.specs.Positions.{fold_by}
+use Rattle.analysis.specs.Verdict.{verdict}
 use Rattle.writing.specs.Text.{line_of, yes_no}
 
 -- the numbers of the six methods, for each of which something is listed
 abbrev pub method_numbers : List ℕ
 method_numbers = 0 ∷ 1 ∷ 2 ∷ 3 ∷ 4 ∷ 5 ∷ []
 
-abbrev pub has_response : Response → Bool
-has_response (Within t) = true
-has_response Unschedulable = false
-
--- whether every task has a response under a method
-abbrev pub verdict : ℕ → (ℕ → Response) → Bool
-verdict count answers = fold_by ◌&&◌ true (λ i. has_response (answers i)) (between 0 count)
-
--- whether it has one under every method
+-- whether every task has a response under every method
 abbrev pub every_verdict : ℕ → (ℕ → ℕ → Response) → Bool
 every_verdict count answers = fold_by ◌&&◌ true (λ m. verdict count (answers m)) method_numbers
 
 -- the last line: `V`, and the verdict of each method
 unfoldable pub verdict_line : ℕ → (ℕ → ℕ → Response) → List ℕ
-verdict_line count answers = line_of (86 ∷ []) (map (λ m. yes_no (verdict count (answers m))) method_numbers)
+verdict_line count answers = line_of (codes "V") (map (λ m. yes_no (verdict count (answers m))) method_numbers)

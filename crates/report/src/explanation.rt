@@ -2,25 +2,25 @@
 
 mod lines;
 
-ghost use Rattle.std.specs.Prelude.{◌<◌};
-ghost use Rattle.table.specs.Accepted.{AcceptedTable};
-ghost use Rattle.report.specs.Explained.{Explained};
+ghost use Rattle.report.specs.Explained.{DeliversExplanation};
 
 use analysis::{Method, need};
 use lines::{write_need_line, write_reasons};
-use table::Table;
+use table::accepted::Pending;
 use table::refusals::Refusal;
 use writing::delivery::deliver;
 use writing::writer::Draft;
 
-// The explanation of what a method answers for the task at i. It is written aside and delivered whole.
-pub fn explain(table: &Table, method: Method, i: usize, out: &mut [u8]) -> Result<usize, Refusal>
-    requires { AcceptedTable table.now × (i < table.now.count) }
-    ensures { Explained table.now method i out.old result out.new }
+// No explanation has more bytes.
+pub const LONGEST_EXPLANATION: usize = 1348;
+
+// The explanation of what a method answers for a task. It is written aside and delivered whole.
+pub fn explain(pending: Pending, method: Method, out: &mut [u8]) -> Result<usize, Refusal>
+    ensures { DeliversExplanation pending.entry.table.now method pending.entry.i out.old result out.new }
 {
-    let needed = need::explained(table, method, i);
+    let needed = need::explained(pending, method);
     let mut draft = Draft::new();
-    write_need_line(&mut draft, table.task(i), &needed);
-    write_reasons(&mut draft, table, &needed, i);
+    write_need_line(&mut draft, pending.task(), &needed);
+    write_reasons(&mut draft, pending.table, &needed, pending.i);
     deliver(draft.text(), out)
 }

@@ -1,11 +1,14 @@
 // The verdicts of the methods, and the line that tells them.
 
 ghost use Rattle.std.specs.Prelude.{◌≡◌, ◌+◌, ◌≤◌, ◌<◌, ◌++◌, length};
+ghost use Rattle.std.specs.List.{list_all};
 ghost use Rattle.writing.specs.declared.writer.TheConstants.{ROOM};
-ghost use Rattle.report.specs.Verdicts.{has_response, verdict, every_verdict, verdict_line};
+ghost use Rattle.analysis.specs.Verdict.{has_response, verdict};
+ghost use Rattle.report.specs.Verdicts.{every_verdict, verdict_line};
 ghost use Rattle.report.specs.VerdictRows.{answer_under, answers_in};
 
-use search::demand::{Response, Row};
+use analysis::rows::Row;
+use search::demand::Response;
 use writing::writer::Draft;
 
 // Whether there is a response in a row.
@@ -13,10 +16,15 @@ fn responds(row: &Row, m: usize) -> bool
     requires { m < 6 }
     ensures { result ≡ has_response (answer_under row.now m) }
 {
-    match row.responses[m] {
-        Response::Within(_) => true,
-        Response::Unschedulable => false,
-    }
+    matches!(row.responses[m], Response::Within(_))
+}
+
+// Whether each row has a response.
+fn all_respond(rows: &[Row], m: usize) -> bool
+    requires { m < 6 }
+    ensures { result ≡ list_all (λ row. has_response (answer_under row m)) rows.now }
+{
+    rows.iter().all(|row| responds(row, m))
 }
 
 // Whether every task has a response under a method.
@@ -24,12 +32,7 @@ fn verdict(rows: &[Row], m: usize) -> bool
     requires { m < 6 }
     ensures { result ≡ verdict (length rows.now) (answers_in rows.now m) }
 {
-    for row in rows {
-        if !responds(row, m) {
-            return false;
-        }
-    }
-    true
+    all_respond(rows, m)
 }
 
 // Whether every task has a response under every method.

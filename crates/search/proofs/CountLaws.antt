@@ -5,10 +5,10 @@ use Rattle.std.proofs.lemmas.List.{get_or-take, length-take}
 use Rattle.search.specs.declared.demand.Term.{Term}
 use Rattle.search.specs.Positions.{front}
 use Rattle.search.specs.Demand.{ceil, activations_of, demand_of, NoMore}
-use Rattle.search.specs.Terms.{term_in, InRange, Handed}
+use Rattle.search.specs.Terms.{term_in, InRange, NoOverflow}
 use Rattle.search.specs.Least.{Reached}
 use Rattle.search.specs.declared.response.Count.{Count}
-use Rattle.search.specs.Counts.{count, count_in, once, missing_of, raised_to, asked_of, Kept, Raised, Started}
+use Rattle.search.specs.Counts.{count, count_in, once, missing_of, raised_to, asked_of, CountsHold, Raised, Started}
 use Rattle.search.proofs.PositionLaws.{fold-none, fold_next, fold_same}
 use Rattle.search.proofs.FrontLaws.{front_at, front_long}
 use Rattle.search.proofs.LeastLaws.{solution-under, reached-below}
@@ -127,9 +127,9 @@ pub kept-few : (t : Term) (c : Count) → InRange t → c.end.0 ≤ 500000000 �
 kept-few t c p soon holds =
     omega (arith, mul-le-mul_left c.activations p.period, holds, soon, p.jitter, p.period-most)
 
-module _ {own limit : ℕ} {terms : List Term} (handed : Handed own terms limit) where
+module _ {own limit : ℕ} {terms : List Term} (handed : NoOverflow own terms limit) where
   -- what one of them asks for
-  pub asks-kept : {counts : List Count} → Kept (term_in terms) (length terms) counts → (j : ℕ) → j < length terms
+  pub asks-kept : {counts : List Count} → CountsHold (term_in terms) (length terms) counts → (j : ℕ) → j < length terms
       → (count_in counts j).activations * (term_in terms j).weight.0 ≤ 500000000000000000
   asks-kept k j l =
       let p = handed.ranged j l in asks-bound _ _ (omega (arith, kept-few _ _ p (k.soon j l) (k.holds j l))) p.weight

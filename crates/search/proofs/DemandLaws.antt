@@ -5,7 +5,7 @@ use Rattle.search.specs.declared.demand.Response.TheVariants.{Unschedulable}
 use Rattle.search.specs.Positions.{hp, fold_by}
 use Rattle.search.specs.declared.demand.Term.{Term}
 use Rattle.search.specs.Demand.{ceil, activations_of, work_of, demand_of, NoMore}
-use Rattle.search.specs.Terms.{InRange, Handed}
+use Rattle.search.specs.Terms.{InRange, NoOverflow}
 use Rattle.search.specs.Least.{least_of, NoLater}
 use Rattle.search.proofs.LeastLaws.{Monotone, least_of-no-later}
 use Rattle.search.proofs.SoonerLaws.{none-latest}
@@ -56,7 +56,7 @@ pub activations-some : (s : ℕ) (t : Term) → InRange t → 1 ≤ s → 1 ≤ 
 activations-some s t p h = lt_of_not-le (λ m. let q = (ceil-le (s + t.jitter.0) 0 t.period.0 p.period).0 m in omega arith)
 
 -- the same terms may be handed in for other work of the task's own, and at another time
-pub handed-for : {own r : ℕ} {terms : List Term} → Handed own terms r → {c s : ℕ} → 1 ≤ c → c ≤ 500000000 → s ≤ 250000000 → Handed c terms s
+pub handed-for : {own r : ℕ} {terms : List Term} → NoOverflow own terms r → {c s : ℕ} → 1 ≤ c → c ≤ 500000000 → s ≤ 250000000 → NoOverflow c terms s
 handed-for p least most time = record {
   few = p.few;
   own-least = least;

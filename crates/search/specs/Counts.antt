@@ -29,7 +29,7 @@ unfoldable pub asked_of : ℕ → (ℕ → Term) → List Count → ℕ → ℕ
 asked_of own t counts n = fold_by ◌+◌ own (λ j. (count_in counts j).activations * (t j).weight.0) (hp n)
 
 -- each count holds up to its end
-pub record Kept (t : ℕ → Term) (n : ℕ) (counts : List Count) : Type 0 where
+pub record CountsHold (t : ℕ → Term) (n : ℕ) (counts : List Count) : Type 0 where
   pub long : n ≤ length counts
   pub soon : (j : ℕ) → j < n → (count_in counts j).end.0 ≤ 500000000
   pub holds : (j : ℕ) → j < n → (count_in counts j).end.0 + (t j).jitter.0 ≡ (count_in counts j).activations * (t j).period.0
@@ -41,5 +41,5 @@ pub record Raised (t : ℕ → Term) (r : ℕ) (counts : List Count) (n : ℕ) (
 
 -- counts to start from: none is above what any solution has
 pub record Started (own : ℕ) (t : ℕ → Term) (n : ℕ) (counts : List Count) : Type 0 where
-  pub kept : Kept t n counts
+  pub kept : CountsHold t n counts
   pub under : (s : ℕ) → s ≡ demand_of own t n s → (j : ℕ) → j < n → (count_in counts j).activations ≤ activations_of s (t j)

@@ -15,7 +15,7 @@ pub record InRange (t : Term) : Type 0 where
   pub weight : t.weight.0 ≤ 500000000
 
 -- what a call is to be handed: at most 32 terms, and numbers with which no side of an equation reaches 2 ^ 64
-pub record Handed (own : ℕ) (terms : List Term) (r : ℕ) : Type 0 where
+pub record NoOverflow (own : ℕ) (terms : List Term) (r : ℕ) : Type 0 where
   pub few : length terms ≤ 32
   pub own-least : 1 ≤ own
   pub own-most : own ≤ 500000000

@@ -3,7 +3,7 @@
 
 ghost use Rattle.std.specs.Prelude.{◌≡◌, ◌≤◌, length};
 ghost use Rattle.search.specs.Demand.{work_of, demand_of};
-ghost use Rattle.search.specs.Terms.{term_in, InRange, Handed};
+ghost use Rattle.search.specs.Terms.{term_in, InRange, NoOverflow};
 ghost use Rattle.search.specs.Least.{sooner, later};
 
 use cache::units::Ticks;
@@ -35,7 +35,7 @@ impl Term {
 
 // The demand of a task with `own` ticks of work under these terms at `r`.
 pub fn demand_at(own: u64, terms: &[Term], r: u64) -> u64
-    requires { Handed own terms.now r }
+    requires { NoOverflow own terms.now r }
     ensures { result ≡ demand_of own (term_in terms.now) (length terms.now) r }
 {
     let mut demand = own;
@@ -78,10 +78,4 @@ impl Response {
         };
         if x.0 < y.0 { other } else { self }
     }
-}
-
-// The answers for one task under the methods 0 to 5.
-#[derive(Clone, Copy)]
-pub struct Row {
-    pub responses: [Response; 6],
 }

@@ -2,7 +2,7 @@
 // rests on the choice, so nothing more is said of it than its ranges: any other one would do, and give the same answers.
 
 ghost use Rattle.std.specs.Prelude.{◌≡◌, ℕ, ◌≤◌, ◌<◌, length};
-ghost use Rattle.search.specs.Terms.{term_in, Handed};
+ghost use Rattle.search.specs.Terms.{term_in, NoOverflow};
 ghost use Rattle.search.specs.Grouping.{ShortTaken, Chosen};
 
 use crate::demand::Term;
@@ -42,7 +42,7 @@ fn set_apart(terms: &[Term], classes: &mut [usize; 32])
 
 // The period of the term that asks for most, of those that are in no round yet; 0 where there is none.
 fn heaviest(terms: &[Term], classes: &[usize; 32]) -> u64
-    requires { Handed 1 terms.now 0 × ShortTaken (term_in terms.now) (length terms.now) classes.now }
+    requires { NoOverflow 1 terms.now 0 × ShortTaken (term_in terms.now) (length terms.now) classes.now }
     ensures { result ≤ 16384 }
 {
     let mut period: u64 = 0;
@@ -60,7 +60,7 @@ fn heaviest(terms: &[Term], classes: &[usize; 32]) -> u64
 
 // What those ask for whose periods divide a round.
 fn weight_in(terms: &[Term], classes: &[usize; 32], ticks: u64) -> u64
-    requires { Handed 1 terms.now 0 × (length classes.now ≡ 32) }
+    requires { NoOverflow 1 terms.now 0 × (length classes.now ≡ 32) }
 {
     let mut sum: u64 = 0;
     for (i, term) in terms.iter().enumerate() {
@@ -87,7 +87,7 @@ fn joined(ticks: u64, period: u64) -> u64
 
 // The round that is joined with the period of one more term so that those in it ask for most.
 fn longer(terms: &[Term], classes: &[usize; 32], ticks: u64) -> u64
-    requires { Handed 1 terms.now 0 × (length classes.now ≡ 32) × (1 ≤ ticks) × (ticks ≤ 16384) }
+    requires { NoOverflow 1 terms.now 0 × (length classes.now ≡ 32) × (1 ≤ ticks) × (ticks ≤ 16384) }
     ensures { (1 ≤ result) × (result ≤ 16384) }
 {
     let mut best = ticks;
@@ -107,7 +107,7 @@ fn longer(terms: &[Term], classes: &[usize; 32], ticks: u64) -> u64
 
 // A round made longer so, as often as it goes.
 fn grown(terms: &[Term], classes: &[usize; 32], ticks: u64) -> u64
-    requires { Handed 1 terms.now 0 × (length classes.now ≡ 32) × (1 ≤ ticks) × (ticks ≤ 16384) }
+    requires { NoOverflow 1 terms.now 0 × (length classes.now ≡ 32) × (1 ≤ ticks) × (ticks ≤ 16384) }
     ensures { (1 ≤ result) × (result ≤ 16384) }
 {
     let long = longer(terms, classes, ticks);
@@ -134,7 +134,7 @@ fn join(terms: &[Term], ticks: u64, round: usize, classes: &mut [usize; 32])
 
 // Chooses rounds, puts terms into them, and tells how many they are.
 pub fn choose(terms: &[Term], classes: &mut [usize; 32], ticks: &mut [u64; 8]) -> usize
-    requires { Handed 1 terms.now 0 × (length classes.old ≡ 32) × (length ticks.old ≡ 8) }
+    requires { NoOverflow 1 terms.now 0 × (length classes.old ≡ 32) × (length ticks.old ≡ 8) }
     ensures { Chosen (term_in terms.now) (length terms.now) result classes.new ticks.new }
 {
     set_apart(terms, classes);

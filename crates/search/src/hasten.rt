@@ -11,7 +11,7 @@
 
 ghost use Rattle.std.specs.Prelude.{◌≡◌, ◌+◌, ◌≤◌, ◌<◌, length};
 ghost use Rattle.search.specs.Demand.{demand_of};
-ghost use Rattle.search.specs.Terms.{term_in, InRange, Handed};
+ghost use Rattle.search.specs.Terms.{term_in, InRange, NoOverflow};
 ghost use Rattle.search.specs.Least.{least_of, Reached};
 ghost use Rattle.search.specs.Positions.{front};
 ghost use Rattle.search.specs.Shares.{share_of, shares_of};
@@ -74,7 +74,7 @@ fn part_of(term: Term, share: u64, r: u64, reach: u64, left: u64) -> Part
 
 // One turn: the next time is the demand, or, if that is later, the time that what is left of the processor takes for what is counted.
 fn turn_at(own: u64, terms: &[Term], shares: &[u64; 32], limit: u64, r: u64, reach: u64) -> Turn
-    requires { Handed own terms.now limit × (r ≤ limit) × (reach ≤ 17200000000000000000) × (shares.now ≡ front 0 (λ j. share_of (term_in terms.now j)) (length terms.now)) }
+    requires { NoOverflow own terms.now limit × (r ≤ limit) × (reach ≤ 17200000000000000000) × (shares.now ≡ front 0 (λ j. share_of (term_in terms.now j)) (length terms.now)) }
     ensures { TurnOf (demand_of own (term_in terms.now) (length terms.now)) r result }
 {
     let mut demand = own;
@@ -102,7 +102,7 @@ fn turn_at(own: u64, terms: &[Term], shares: &[u64; 32], limit: u64, r: u64, rea
 
 // The task's own work, and what the terms ask for at `r` that are not taken.
 fn counted_at(own: u64, terms: &[Term], classes: &[usize; 32], r: u64) -> u64
-    requires { Handed own terms.now r × (length classes.now ≡ 32) }
+    requires { NoOverflow own terms.now r × (length classes.now ≡ 32) }
     ensures { (result ≡ own + works_over (counted classes.now) (term_in terms.now) (length terms.now) r) × (result ≤ 8000000000500000000) }
 {
     let mut sum = own;
@@ -126,7 +126,7 @@ fn leap(
     r: u64,
     next: u64,
 ) -> u64
-    requires handed { Handed own terms.now limit × (r ≤ limit) × (next ≤ 8600000000000000000) }
+    requires handed { NoOverflow own terms.now limit × (r ≤ limit) × (next ≤ 8600000000000000000) }
     requires rounds { RoundsOf (term_in terms.now) (length terms.now) rounds.now entries.now }
     requires reached { Reached (demand_of own (term_in terms.now) (length terms.now)) r × Reached (demand_of own (term_in terms.now) (length terms.now)) next }
     ensures reached { Reached (demand_of own (term_in terms.now) (length terms.now)) result }
@@ -167,7 +167,7 @@ fn leap(
 // The iteration where it goes on for long, with the terms in rounds. The windows stand on its stack alone, so quick searches need none for them.
 #[inline(never)]
 fn by_rounds(own: u64, terms: &[Term], limit: u64, start: u64) -> Response
-    requires handed { Handed own terms.now limit × (shares_of (term_in terms.now) (length terms.now) < 17179869184) }
+    requires handed { NoOverflow own terms.now limit × (shares_of (term_in terms.now) (length terms.now) < 17179869184) }
     requires reached { Reached (demand_of own (term_in terms.now) (length terms.now)) start × (start ≤ 8600000000000000000) }
     ensures { result ≡ least_of (demand_of own (term_in terms.now) (length terms.now)) limit }
 {
@@ -190,7 +190,7 @@ fn by_rounds(own: u64, terms: &[Term], limit: u64, start: u64) -> Response
 
 // The iteration where it is slow. No solution is below `start`.
 pub fn hasten(own: u64, terms: &[Term], limit: u64, start: u64) -> Response
-    requires { Handed own terms.now limit × (start ≤ limit) × Reached (demand_of own (term_in terms.now) (length terms.now)) start }
+    requires { NoOverflow own terms.now limit × (start ≤ limit) × Reached (demand_of own (term_in terms.now) (length terms.now)) start }
     ensures { result ≡ least_of (demand_of own (term_in terms.now) (length terms.now)) limit }
 {
     if shares::left_by(terms) == 0 {

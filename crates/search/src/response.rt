@@ -3,10 +3,10 @@
 ghost use Rattle.std.specs.Prelude.{◌≡◌, true, ℕ, ◌≤◌, ◌<◌, length, if◌then◌else◌};
 ghost use Rattle.search.specs.Positions.{front};
 ghost use Rattle.search.specs.Demand.{demand_of};
-ghost use Rattle.search.specs.Terms.{term_in, InRange, Handed};
+ghost use Rattle.search.specs.Terms.{term_in, InRange, NoOverflow};
 ghost use Rattle.search.specs.Least.{least_of, end_of, later};
 ghost use Rattle.search.specs.declared.demand.Response.TheVariants.{Within};
-ghost use Rattle.search.specs.Counts.{count, count_in, once, missing_of, raised_to, asked_of, Kept, Raised, Started};
+ghost use Rattle.search.specs.Counts.{count, count_in, once, missing_of, raised_to, asked_of, CountsHold, Raised, Started};
 
 use crate::demand::{Response, Term, demand_at};
 use crate::hasten;
@@ -76,7 +76,7 @@ fn missing(period: u64, end: u64, r: u64) -> u64
 
 // What the counts ask for.
 fn asked(own: u64, terms: &[Term], counts: &[Count]) -> u64
-    requires { Handed own terms.now 0 × Kept (term_in terms.now) (length terms.now) counts.now }
+    requires { NoOverflow own terms.now 0 × CountsHold (term_in terms.now) (length terms.now) counts.now }
     ensures { result ≡ asked_of own (term_in terms.now) counts.now (length terms.now) }
 {
     let mut sum = own;
@@ -95,7 +95,7 @@ fn hold(counts: &[Count], r: u64) -> bool
 
 // What the counts ask for once each is raised to the activations up to `r`.
 fn advance(own: u64, terms: &[Term], r: u64, counts: &mut [Count]) -> u64
-    requires { Handed own terms.now r × Kept (term_in terms.now) (length terms.now) counts.old }
+    requires { NoOverflow own terms.now r × CountsHold (term_in terms.now) (length terms.now) counts.old }
     ensures value { result ≡ asked_of own (term_in terms.now) counts.new (length terms.now) }
     ensures raised { Raised (term_in terms.now) r counts.old (length terms.now) counts.new }
 {
@@ -140,7 +140,7 @@ fn finish(
     start: u64,
     counts: &mut [Count],
 ) -> Response
-    requires { Handed own terms.now limit × Started own (term_in terms.now) (length terms.now) counts.old × (start ≡ asked_of own (term_in terms.now) counts.old (length terms.now)) }
+    requires { NoOverflow own terms.now limit × Started own (term_in terms.now) (length terms.now) counts.old × (start ≡ asked_of own (term_in terms.now) counts.old (length terms.now)) }
     ensures result_value { later (Within known) result ≡ later (Within known) (least_of (demand_of own (term_in terms.now) (length terms.now)) limit) }
     ensures started { Started own (term_in terms.now) (length terms.now) counts.new }
 {
@@ -167,7 +167,7 @@ pub fn least_beyond(
     known: Ticks,
     counts: &mut [Count],
 ) -> Response
-    requires { Handed own.0 terms.now limit.0 × Started own.0 (term_in terms.now) (length terms.now) counts.old }
+    requires { NoOverflow own.0 terms.now limit.0 × Started own.0 (term_in terms.now) (length terms.now) counts.old }
     ensures result_value { later (Within known) result ≡ later (Within known) (least_of (demand_of own.0 (term_in terms.now) (length terms.now)) limit.0) }
     ensures started { Started own.0 (term_in terms.now) (length terms.now) counts.new }
 {
@@ -188,7 +188,7 @@ pub fn least_beyond(
 // The smallest time up to `limit` that equals its demand, for a task with `own` ticks of work under these terms. `counts` has activations of theirs to start
 // from, none above those of a solution, and is left so.
 pub fn least(own: Ticks, terms: &[Term], limit: Ticks, counts: &mut [Count]) -> Response
-    requires { Handed own.0 terms.now limit.0 × Started own.0 (term_in terms.now) (length terms.now) counts.old }
+    requires { NoOverflow own.0 terms.now limit.0 × Started own.0 (term_in terms.now) (length terms.now) counts.old }
     ensures result_value { result ≡ least_of (demand_of own.0 (term_in terms.now) (length terms.now)) limit.0 }
     ensures started { Started own.0 (term_in terms.now) (length terms.now) counts.new }
 {

@@ -3,7 +3,7 @@
 
 ghost use Rattle.std.specs.Prelude.{◌≡◌, ◌&&◌, ℕ, ◌+◌, ◌-◌, ◌*◌, ◌%◌, ◌≤◌, ◌<◌, length, ◌==◌};
 ghost use Rattle.search.specs.Demand.{ceil};
-ghost use Rattle.search.specs.Terms.{term_in, Handed};
+ghost use Rattle.search.specs.Terms.{term_in, NoOverflow};
 ghost use Rattle.search.specs.Shares.{shares_of};
 ghost use Rattle.search.specs.Grouping.{ShortTaken};
 ghost use Rattle.search.specs.Classes.{shares_over, taken};
@@ -35,7 +35,7 @@ pub struct Rounds {
 
 // What those of them leave that are taken by their shares.
 fn left_by_taken(terms: &[Term], classes: &[usize; 32]) -> u64
-    requires { Handed 1 terms.now 0 × (length classes.now ≡ 32) }
+    requires { NoOverflow 1 terms.now 0 × (length classes.now ≡ 32) }
     ensures { result ≡ 17179869184 - shares_over (taken classes.now) (term_in terms.now) (length terms.now) }
 {
     let mut left = WHOLE;
@@ -89,7 +89,7 @@ fn lacking(
     ticks: u64,
     count: usize,
 ) -> [u64; LACKS]
-    requires { Handed 1 terms.now 0 × (shares_of (term_in terms.now) (length terms.now) < 17179869184) × ShortTaken (term_in terms.now) (length terms.now) classes.now × (round < 8) × (count ≤ 16704) }
+    requires { NoOverflow 1 terms.now 0 × (shares_of (term_in terms.now) (length terms.now) < 17179869184) × ShortTaken (term_in terms.now) (length terms.now) classes.now × (round < 8) × (count ≤ 16704) }
     ensures { LacksIn (term_in terms.now) (length terms.now) classes.now round ticks count result }
 {
     let mut lacks = [0u64; LACKS];
@@ -149,7 +149,7 @@ fn tabulate(
     ticks: u64,
     entries: &mut [u64; WINDOWS],
 ) -> u64
-    requires { Handed 1 terms.now 0 × (shares_of (term_in terms.now) (length terms.now) < 17179869184) × ShortTaken (term_in terms.now) (length terms.now) classes.now × (round < 8) × (1 ≤ ticks) × (ticks ≤ 16384) × (length entries.old ≡ 16384) }
+    requires { NoOverflow 1 terms.now 0 × (shares_of (term_in terms.now) (length terms.now) < 17179869184) × ShortTaken (term_in terms.now) (length terms.now) classes.now × (round < 8) × (1 ≤ ticks) × (ticks ≤ 16384) × (length entries.old ≡ 16384) }
     ensures { Tabled (term_in terms.now) (length terms.now) classes.now round ticks result entries.old entries.new }
 {
     let count = ticks as usize;
@@ -170,7 +170,7 @@ pub fn window_at(entries: &[u64; WINDOWS], round: usize, ticks: u64, step: usize
 
 // Rounds for some terms, and their windows.
 pub fn make(terms: &[Term], entries: &mut [u64; WINDOWS]) -> Rounds
-    requires { Handed 1 terms.now 0 × (shares_of (term_in terms.now) (length terms.now) < 17179869184) × (length entries.old ≡ 16384) }
+    requires { NoOverflow 1 terms.now 0 × (shares_of (term_in terms.now) (length terms.now) < 17179869184) × (length entries.old ≡ 16384) }
     ensures { RoundsOf (term_in terms.now) (length terms.now) result entries.new }
 {
     let mut classes = [COUNTED; 32];

@@ -2,7 +2,7 @@
 
 ghost use Rattle.std.specs.Prelude.{◌≡◌, ◌-◌, length};
 ghost use Rattle.search.specs.Positions.{front};
-ghost use Rattle.search.specs.Terms.{term_in, InRange, Handed};
+ghost use Rattle.search.specs.Terms.{term_in, InRange, NoOverflow};
 ghost use Rattle.search.specs.Shares.{share_of, shares_of};
 
 use crate::demand::Term;
@@ -20,7 +20,7 @@ pub fn share(term: Term) -> u64
 
 // What the terms leave of the processor.
 pub fn left_by(terms: &[Term]) -> u64
-    requires { Handed 1 terms.now 0 }
+    requires { NoOverflow 1 terms.now 0 }
     ensures { result ≡ 17179869184 - shares_of (term_in terms.now) (length terms.now) }
 {
     let mut left = WHOLE;
@@ -32,7 +32,7 @@ pub fn left_by(terms: &[Term]) -> u64
 
 // The shares of the terms, listed.
 pub fn listed(terms: &[Term]) -> [u64; 32]
-    requires { Handed 1 terms.now 0 }
+    requires { NoOverflow 1 terms.now 0 }
     ensures { result ≡ front 0 (λ j. share_of (term_in terms.now j)) (length terms.now) }
 {
     let mut shares = [0u64; 32];

@@ -1,8 +1,9 @@
 -- What an access line says, field by field, and its refusals, each with its condition, in the order in which they are tried.
-use Rattle.std.specs.Prelude.{ℕ, List, [], ◌∷◌, ◌≡◌, true, not, ◌&&◌, length, is_some, unwrap_or, nat_le, nat_lt}
+use Rattle.std.specs.Prelude.{ℕ, List, [], ◌∷◌, ◌≡◌, true, not, ◌&&◌, length, is_some, unwrap_or, nat_le, nat_lt, ◌==◌}
+use Rattle.cache.specs.declared.units.TheConstants.Ticks.{LONGEST}
 use Rattle.std.specs.List.{position_or_len}
-use Rattle.table.specs.Cut.{field}
-use Rattle.table.specs.Fields.{is_number, number, has_shape, is_name, is_within}
+use Rattle.table.specs.Cut.{field, field_count}
+use Rattle.table.specs.Fields.{is_number, number, is_name, is_within}
 use Rattle.cache.specs.declared.useful.Form.{Form}
 use Rattle.cache.specs.UsefulField.{read_useful, within_ways}
 use Rattle.table.specs.declared.refusals.Reason.TheVariants.{Shape, Name, Number, Range, Marks, TooManyBlocks, OtherTask}
@@ -13,9 +14,9 @@ use Rattle.table.specs.Tasks.{pack_name, no_blocks}
 use Rattle.table.specs.declared.accesses.Access.{Access}
 use Rattle.table.specs.declared.accesses.line.AccessFields.{AccessFields}
 
--- these are the fields of an access line, which has five, and `A` the first
+-- these are the fields of an access line, which has five, behind the first
 pub record AreAccessFields (line : List ℕ) (f : AccessFields) : Type 0 where
-  pub shaped : has_shape 65 5 line ≡ true
+  pub five : (field_count line == 5) ≡ true
   pub task : f.task.now ≡ field 1 line
   pub ceiling : f.ceiling.now ≡ field 2 line
   pub lasts : f.lasts.now ≡ field 3 line
@@ -34,15 +35,15 @@ access_said form sets tasks line = record {
   ucb = unwrap_or (read_useful form sets (field 4 line)) no_blocks;
 }
 
--- an access line below these tasks: both of its names are those of tasks, and the ceiling is the task or above it
+-- a line whose first field is `A`, below these tasks: both of its names are those of tasks, and the ceiling is the task or above it
 unfoldable pub access_rows : Form → ℕ → List Task → List ℕ → Conditions
 access_rows form sets tasks line =
     let task = position_named tasks (field 1 line) in
     let ceiling = position_named tasks (field 2 line) in
-    (not (has_shape 65 5 line), Shape)
+    (not (field_count line == 5), Shape)
     ∷ (not (is_name (field 1 line) && is_name (field 2 line)), Name)
     ∷ (not (is_number (field 3 line)), Number)
-    ∷ (not (is_within 1 250000000 (number (field 3 line))), Range)
+    ∷ (not (is_within 1 LONGEST (number (field 3 line))), Range)
     ∷ (not (is_some (read_useful form sets (field 4 line))), Marks)
     ∷ (not (within_ways form (field 4 line)), TooManyBlocks)
     ∷ (not (nat_lt task (length tasks) && nat_le ceiling task), OtherTask)

@@ -25,13 +25,13 @@ is_number s = is_some (read_number s)
 abbrev pub number : List ℕ → ℕ
 number s = unwrap_or (read_number s) 0
 
--- the one byte b
-abbrev pub is_letter : ℕ → List ℕ → Bool
-is_letter b s = bytes_eq s (b ∷ [])
+-- a line of a kind: its first field is the kind's letter
+abbrev pub is_of_kind : List ℕ → List ℕ → Bool
+is_of_kind letter line = bytes_eq (field 0 line) letter
 
--- A line of a kind: its first field is the kind's letter, and it has the kind's number of fields.
-unfoldable pub has_shape : ℕ → ℕ → List ℕ → Bool
-has_shape letter fields line = is_letter letter (field 0 line) && field_count line == fields
+-- and it has the kind's number of fields
+unfoldable pub has_shape : List ℕ → ℕ → List ℕ → Bool
+has_shape letter fields line = is_of_kind letter line && field_count line == fields
 
 -- up to twelve bytes, at least one, each a small letter, a digit or a dash
 unfoldable pub is_name : List ℕ → Bool

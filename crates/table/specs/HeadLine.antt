@@ -1,5 +1,8 @@
 -- What line 1 says, field by field, and its refusals.
-use Rattle.std.specs.Prelude.{ℕ, ◌%◌, List, [], ◌∷◌, not, ◌&&◌, ◌||◌, Bool, ◌≡◌, true, ◌==◌, Option, Some, None, is_some, unwrap_or, option_map, slice_get}
+use Rattle.std.specs.Prelude.{ℕ, ◌%◌, List, [], ◌∷◌, not, ◌&&◌, ◌||◌, Bool, ◌≡◌, true, ◌==◌, Option, Some, None, is_some, unwrap_or, option_map, slice_get, codes}
+use Rattle.cache.specs.declared.units.TheConstants.Ticks.{LONGEST_RELOAD}
+use Rattle.cache.specs.declared.sets.TheConstants.CacheSet.{MOST_SETS}
+use Rattle.cache.specs.declared.useful.TheConstants.Useful.{MOST_WAYS}
 use Rattle.cache.specs.declared.useful.Form.{Form}
 use Rattle.cache.specs.declared.useful.Form.TheVariants.{Hex, Digits}
 use Rattle.cache.specs.UsefulField.{ways_of}
@@ -12,7 +15,7 @@ use Rattle.table.specs.declared.tasks.head.HeadFields.{HeadFields}
 
 -- three fields, of which `K` is the first, or a fourth that names the ways
 unfoldable pub is_head : List ℕ → Bool
-is_head line = has_shape 75 3 line || has_shape 75 4 line
+is_head line = has_shape (codes "K") 3 line || has_shape (codes "K") 4 line
 
 -- the fourth field, if there is one
 abbrev pub ways_field : List ℕ → Option (List ℕ)
@@ -30,7 +33,7 @@ head_said line = record { sets = number (field 1 line); brt = record { 0 = numbe
 -- the ranges of line 1, and that the sets come in fours
 unfoldable pub head_in_range : Head → Bool
 head_in_range head =
-    is_within 4 256 head.sets && (head.sets % 4) == 0 && is_within 0 100000 head.brt.0 && is_within 1 8 (ways_of head.form)
+    is_within 4 MOST_SETS head.sets && (head.sets % 4) == 0 && is_within 0 LONGEST_RELOAD head.brt.0 && is_within 1 MOST_WAYS (ways_of head.form)
 
 abbrev pub head_rows : List ℕ → Conditions
 head_rows line =

@@ -1,5 +1,6 @@
 -- The tasks of a table, and its accesses.
 use Rattle.std.specs.Prelude.{ℕ, ◌+◌, List, take, set, replicate, slice_index_or}
+use Rattle.table.specs.declared.TheConstants.Table.{MOST_TASKS, MOST_ACCESSES}
 use Rattle.table.specs.declared.tasks.Task.{Task}
 use Rattle.table.specs.declared.tasks.head.Head.{Head}
 use Rattle.cache.specs.declared.useful.Form.TheVariants.{Hex}
@@ -36,9 +37,9 @@ new_table head = record {
   brt = head.brt;
   form = head.form;
   count = 0;
-  tasks = replicate 32 empty_task;
+  tasks = replicate MOST_TASKS empty_task;
   access_count = 0;
-  accesses = replicate 32 empty_access;
+  accesses = replicate MOST_ACCESSES empty_access;
 }
 
 -- the table into which a text is read
@@ -47,24 +48,8 @@ empty_table = new_table (record { sets = 0; brt = record { 0 = 0 }; form = Hex }
 
 -- the table with a task more, below the others
 abbrev pub with_task : Table → Task → Table
-with_task table t = record {
-  sets = table.sets;
-  brt = table.brt;
-  form = table.form;
-  count = table.count + 1;
-  tasks = set table.tasks table.count t;
-  access_count = table.access_count;
-  accesses = table.accesses;
-}
+with_task table t = record table { count = table.count + 1; tasks = set table.tasks table.count t }
 
 -- the table with an access more, after the others
 abbrev pub with_access : Table → Access → Table
-with_access table a = record {
-  sets = table.sets;
-  brt = table.brt;
-  form = table.form;
-  count = table.count;
-  tasks = table.tasks;
-  access_count = table.access_count + 1;
-  accesses = set table.accesses table.access_count a;
-}
+with_access table a = record table { access_count = table.access_count + 1; accesses = set table.accesses table.access_count a }

@@ -1,7 +1,8 @@
 -- What a task line says, field by field, and its refusals, each with its condition, in the order in which they are tried.
-use Rattle.std.specs.Prelude.{ℕ, List, [], ◌∷◌, Bool, ◌≡◌, true, not, ◌&&◌, Option, Some, None, is_some, unwrap_or, if◌then◌else◌, nat_le, nat_lt}
-use Rattle.table.specs.Cut.{field}
-use Rattle.table.specs.Fields.{is_number, number, has_shape, is_name, is_within}
+use Rattle.std.specs.Prelude.{ℕ, List, [], ◌∷◌, Bool, ◌≡◌, true, not, ◌&&◌, Option, Some, None, is_some, unwrap_or, if◌then◌else◌, nat_le, nat_lt, ◌==◌}
+use Rattle.cache.specs.declared.units.TheConstants.Ticks.{LONGEST}
+use Rattle.table.specs.Cut.{field, field_count}
+use Rattle.table.specs.Fields.{is_number, number, is_name, is_within}
 use Rattle.cache.specs.declared.useful.Form.{Form}
 use Rattle.cache.specs.Field.{read_set}
 use Rattle.cache.specs.UsefulField.{read_useful, within_ways}
@@ -14,9 +15,9 @@ use Rattle.table.specs.Names.{knows}
 use Rattle.cache.specs.declared.units.Ticks.{Ticks}
 use Rattle.table.specs.Tasks.{pack_name, no_sets, no_blocks}
 
--- these are the fields of a task line, which has nine, and `T` the first
+-- these are the fields of a task line, which has nine, behind the first
 pub record AreTaskFields (line : List ℕ) (f : TaskFields) : Type 0 where
-  pub shaped : has_shape 84 9 line ≡ true
+  pub nine : (field_count line == 9) ≡ true
   pub name : f.name.now ≡ field 1 line
   pub work : f.work.now ≡ field 2 line
   pub period : f.period.now ≡ field 3 line
@@ -49,19 +50,30 @@ times_of t = record { work = t.work; period = t.period; deadline = t.deadline; j
 -- the ranges of a task's times: J may be 0
 unfoldable pub times_in_range : Times → Bool
 times_in_range t =
-    is_within 1 250000000 t.work.0
-    && is_within 1 250000000 t.period.0
-    && is_within 1 250000000 t.deadline.0
-    && is_within 0 250000000 t.jitter.0
+    is_within 1 LONGEST t.work.0
+    && is_within 1 LONGEST t.period.0
+    && is_within 1 LONGEST t.deadline.0
+    && is_within 0 LONGEST t.jitter.0
 
 -- J ≤ D ≤ T
 unfoldable pub times_in_order : Times → Bool
 times_in_order t = nat_le t.jitter.0 t.deadline.0 && nat_le t.deadline.0 t.period.0
 
+-- the times that a task line says
+abbrev pub line_times : List ℕ → Times
+line_times line = times_said (field 2 line) (field 3 line) (field 4 line) (field 5 line)
+
+-- B of a task line, which says nothing of the task
+abbrev pub blocking_said : List ℕ → Ticks
+blocking_said line = record { 0 = number (field 6 line) }
+
+abbrev pub has_blocking : List ℕ → Bool
+has_blocking line = nat_lt 0 (blocking_said line).0
+
 -- what a task line says: after `T` the name, then the times, the useful blocks and the evicting sets (none where a field says none)
 unfoldable pub task_said : Form → ℕ → List ℕ → Task
 task_said form sets line =
-    let times = times_said (field 2 line) (field 3 line) (field 4 line) (field 5 line) in record {
+    let times = line_times line in record {
       name = pack_name (field 1 line);
       work = times.work;
       period = times.period;
@@ -71,21 +83,18 @@ task_said form sets line =
       ecb = unwrap_or (read_set sets (field 8 line)) no_sets;
     }
 
--- B of a task line, which says nothing of the task
-abbrev pub blocking_said : List ℕ → Ticks
-blocking_said line = record { 0 = number (field 6 line) }
+-- the times and B are numbers
+abbrev pub are_line_numbers : List ℕ → Bool
+are_line_numbers line = are_numbers (field 2 line) (field 3 line) (field 4 line) (field 5 line) && is_number (field 6 line)
 
-abbrev pub has_blocking : List ℕ → Bool
-has_blocking line = nat_lt 0 (blocking_said line).0
-
--- a task line below these tasks: each condition is looked for in every field before the next one is
+-- a line whose first field is `T`, below these tasks: each condition is looked for in every field before the next one is
 unfoldable pub task_rows : Form → ℕ → List Task → List ℕ → Conditions
 task_rows form sets above line =
-    let times = times_said (field 2 line) (field 3 line) (field 4 line) (field 5 line) in
-    (not (has_shape 84 9 line), Shape)
+    let times = line_times line in
+    (not (field_count line == 9), Shape)
     ∷ (not (is_name (field 1 line)), Name)
-    ∷ (not (are_numbers (field 2 line) (field 3 line) (field 4 line) (field 5 line) && is_number (field 6 line)), Number)
-    ∷ (not (times_in_range times && is_within 0 250000000 (number (field 6 line))), Range)
+    ∷ (not (are_line_numbers line), Number)
+    ∷ (not (times_in_range times && is_within 0 LONGEST (blocking_said line).0), Range)
     ∷ (not (is_some (read_useful form sets (field 7 line)) && is_some (read_set sets (field 8 line))), Marks)
     ∷ (not (within_ways form (field 7 line)), TooManyBlocks)
     ∷ (not (times_in_order times), Order)

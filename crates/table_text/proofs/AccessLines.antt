@@ -1,13 +1,13 @@
 -- The line of an access: a line that says what is tested here is not refused and says the same again, and a line that is not refused is what is written of what it
 -- says, which passes the tests.
-use Rattle.std.proofs.Common.{◌≡◌, ℕ, ◌%◌, ◌≤◌, ◌<◌, true, false, ◌&&◌, List, [], ◌∷◌, length, get_or, refl, ap, ◌∙◌, arith, Some, Ok, ltb-true, leb-true, lt-ltb, le-leb, ltb, leb}
+use Rattle.std.proofs.Common.{◌≡◌, ℕ, ◌%◌, ◌≤◌, ◌<◌, true, false, ◌&&◌, List, [], ◌∷◌, length, get_or, refl, ap, ◌∙◌, arith, Ok, ltb-true, leb-true, lt-ltb, le-leb, ltb, leb, codes, ◌==◌, eqb-true}
 use Rattle.std.proofs.lemmas.Slice.Eq.{bytes_eq-Decides}
 use Rattle.std.proofs.lemmas.List.Sums.{position_or_len_is, passes_at_first}
 use Rattle.std.specs.Prelude.{is_some, unwrap_or}
 use Rattle.std.specs.List.{position_or_len}
 use Rattle.std.proofs.lemmas.Bool.{not-false}
-use Rattle.table.specs.Cut.{fields, field}
-use Rattle.table.specs.Fields.{is_name, is_number, number, has_shape, is_within}
+use Rattle.table.specs.Cut.{fields, field, field_count}
+use Rattle.table.specs.Fields.{is_name, is_number, number, is_within}
 use Rattle.cache.specs.declared.useful.Form.{Form}
 use Rattle.cache.specs.UsefulField.{ways_of, read_useful, within_ways}
 use Rattle.table.specs.Rows.{unless_fault}
@@ -20,7 +20,7 @@ use Rattle.table.proofs.Names.{name-kept}
 use Rattle.table.proofs.LineLaws.{both, lies}
 use Rattle.table.specs.declared.accesses.Access.{Access}
 use Rattle.table.specs.AccessLine.{position_named, access_rows, access_said}
-use Rattle.table.specs.Reading.{is_blocked}
+use Rattle.table.specs.Reading.{is_blocked, is_access_line}
 use Rattle.writing.specs.Marks.{useful_text, useful_fits}
 use Rattle.writing.proofs.UsefulFields.{useful-read, useful-within}
 use Rattle.writing.proofs.UsefulReads.{useful-says}
@@ -29,7 +29,7 @@ use Rattle.table_text.specs.Tests.{is_entered}
 use Rattle.table_text.proofs.Numbers.{number_read, number-text}
 use Rattle.table_text.proofs.Lines.{AllPlain}
 use Rattle.table_text.proofs.Plain.{number-plain, useful-plain, name-plain}
-use Rattle.table_text.proofs.TaskLines.{filled-name, marks-are, shape-says, five-of}
+use Rattle.table_text.proofs.TaskLines.{filled-name, marks-are, five-of}
 
 pub record EnteredHolds (form : Form) (sets count : ℕ) (a : Access) : Type 0 where
   pub lasts : is_within 1 250000000 a.lasts.0 ≡ true
@@ -88,7 +88,7 @@ module _ (form : Form) (w : ways_of form ≤ 8) (sets : ℕ) (few : sets ≤ 256
       access-free = rw f refl
 
       pub access-fine : unless_fault (access_rows form sets ts l) (tt {0}) ≡ Ok (tt {0})
-      unfolding access_rows unless_fault has_shape
+      unfolding access_rows unless_fault
       access-fine =
           rw (
             f,
@@ -107,7 +107,7 @@ module _ (form : Form) (w : ways_of form ≤ 8) (sets : ℕ) (few : sets ≤ 256
   -- a line that is not refused
   module _ (l : List ℕ) (e : unless_fault (access_rows form sets ts l) (tt {0}) ≡ Ok (tt {0})) where
     record Rows : Type 0 where
-      shape : has_shape 65 5 l ≡ true
+      five : (field_count l == 5) ≡ true
       names : (is_name (field 1 l) && is_name (field 2 l)) ≡ true
       numeral : is_number (field 3 l) ≡ true
       lasts : is_within 1 250000000 (number (field 3 l)) ≡ true
@@ -126,7 +126,7 @@ module _ (form : Form) (w : ways_of form ≤ 8) (sets : ℕ) (few : sets ≤ 256
         let r6 = fine-row _ _ _ _ _ r5.1 in
         let r7 = fine-row _ _ _ _ _ r6.1 in
         record {
-          shape = not-false _ r1.0;
+          five = not-false _ r1.0;
           names = not-false _ r2.0;
           numeral = not-false _ r3.0;
           lasts = not-false _ r4.0;
@@ -154,11 +154,11 @@ module _ (form : Form) (w : ways_of form ≤ 8) (sets : ℕ) (few : sets ≤ 256
         let bytes = (bytes_eq-Decides _ (pack_name f).bytes).0 same in
         ap (λ (s : List ℕ). name_text (record { bytes = s })) bytes ∙ name-kept f is
 
-    pub access-is : fields l ≡ access_fields form sets ts (access_said form sets ts l)
+    pub access-is : is_access_line l ≡ true → fields l ≡ access_fields form sets ts (access_said form sets ts l)
     unfolding access_said
-    access-is =
+    access-is kind =
         let names = both (is_name (field 1 l)) (is_name (field 2 l)) rows.names in
-        let shape = shape-says 65 5 l rows.shape in
+        let letter = (bytes_eq-Decides (field 0 l) (codes "A")).0 kind in
         let lasts : (1 ≤ number (field 3 l)) × (number (field 3 l) ≤ 250000000) = lies 1 250000000 _ rows.lasts in
         rw (
           found (field 1 l) names.0 within.0,
@@ -166,4 +166,4 @@ module _ (form : Form) (w : ways_of form ≤ 8) (sets : ℕ) (few : sets ≤ 256
           ← number-text (field 3 l) rows.numeral (omega arith),
           ← ucb-says.1,
         )
-        (five-of (fields l) shape.1 ∙ ap (λ (f : List ℕ). f ∷ field 1 l ∷ field 2 l ∷ field 3 l ∷ field 4 l ∷ []) shape.0)
+        (five-of (fields l) (eqb-true (field_count l) 5 rows.five) ∙ ap (λ (f : List ℕ). f ∷ field 1 l ∷ field 2 l ∷ field 3 l ∷ field 4 l ∷ []) letter)

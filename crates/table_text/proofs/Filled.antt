@@ -10,7 +10,7 @@ use Rattle.table.specs.Tasks.{empty_task}
 use Rattle.table.specs.declared.accesses.Access.{Access}
 use Rattle.table.specs.Accesses.{empty_access}
 use Rattle.table.specs.declared.Table.{Table}
-use Rattle.table.specs.Tables.{tasks_of, accesses_of, new_table, with_task, with_access}
+use Rattle.table.specs.Tables.{tasks_of, accesses_of, with_task, with_access}
 
 -- ---- 32 places, of which the first hold a list and the others are empty
 

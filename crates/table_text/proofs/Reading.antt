@@ -129,14 +129,14 @@ module _ (h : Head) (ts : List Task) (accesses : List Access) (l : List ℕ) (p 
       entered = refl;
     }
 
-    with-task : has_blocking l ≡ false → With h ts accesses l (with_task (table_of h ts accesses) t)
-    with-task free = record {
+    with-task : is_task_line l ≡ true → has_blocking l ≡ false → With h ts accesses l (with_task (table_of h ts accesses) t)
+    with-task kind free = record {
       tasks = ts ++ (t ∷ []);
       others = [];
       is = rw early (task-more h ts [] t few);
       passed = more;
       lines =
-          rw (early, append-nil (map (task_fields h.form h.sets) (ts ++ (t ∷ []))), append-nil (map (task_fields h.form h.sets) ts), task-is h.form (few-ways h p.head) h.sets (few-sets h p.head) (sets-by-four h p.head) ts l fine free)
+          rw (early, append-nil (map (task_fields h.form h.sets) (ts ++ (t ∷ []))), append-nil (map (task_fields h.form h.sets) ts), task-is h.form (few-ways h p.head) h.sets (few-sets h p.head) (sets-by-four h p.head) ts l fine kind free)
           (ap (λ (m : List (List (List ℕ))). head_fields h.sets h.brt.0 h.form ∷ m) (map-append (task_fields h.form h.sets) ts (t ∷ [])));
     }
 
@@ -159,29 +159,29 @@ module _ (h : Head) (ts : List Task) (accesses : List Access) (l : List ℕ) (p 
       entered = rw (list_all-append (is_entered h.form h.sets (length ts)) accesses (a ∷ []), p.entered, access-passes h.form (few-ways h p.head) h.sets (few-sets h p.head) (sets-by-four h p.head) ts l access-fine);
     }
 
-    with-access : With h ts accesses l (with_access (table_of h ts accesses) a)
-    with-access = record {
+    with-access : is_access_line l ≡ true → With h ts accesses l (with_access (table_of h ts accesses) a)
+    with-access kind = record {
       tasks = ts;
       others = accesses ++ (a ∷ []);
       is = access-more h ts accesses a few-yet;
       passed = more-accesses;
       lines =
-          rw (map-append (access_fields h.form h.sets ts) accesses (a ∷ []), access-is h.form (few-ways h p.head) h.sets (few-sets h p.head) (sets-by-four h p.head) ts l access-fine)
+          rw (map-append (access_fields h.form h.sets ts) accesses (a ∷ []), access-is h.form (few-ways h p.head) h.sets (few-sets h p.head) (sets-by-four h p.head) ts l access-fine kind)
           (ap (λ (m : List (List (List ℕ))). head_fields h.sets h.brt.0 h.form ∷ m)
           (sym (append_assoc (map (task_fields h.form h.sets) ts) (map (access_fields h.form h.sets ts) accesses) (access_fields h.form h.sets ts a ∷ []))));
     }
 
   -- so any line
   with-any : unless_fault (line_rows (table_of h ts accesses) l) (tt {0}) ≡ Ok (tt {0}) → is_blocked l ≡ false → With h ts accesses l (with_line (table_of h ts accesses) l)
-  with-any e free = go (is_task_line l) (is_access_line l) e free
+  with-any e free = go (is_task_line l) (is_access_line l) refl refl e free
     where
-      go : (t a : Bool)
+      go : (t a : Bool) → is_task_line l ≡ t → is_access_line l ≡ a
           → unless_fault (cond t (task_line_rows (table_of h ts accesses) l) (cond a (access_line_rows (table_of h ts accesses) l) ((true, Shape) ∷ []))) (tt {0}) ≡ Ok (tt {0})
           → (t && has_blocking l) ≡ false
           → With h ts accesses l (cond t (with_task (table_of h ts accesses) (task_said h.form h.sets l)) (with_access (table_of h ts accesses) (access_said h.form h.sets (tasks_of (table_of h ts accesses)) l)))
-      go true a e free = with-task e free
-      go false true e free = rw (its-tasks h ts accesses) (with-access e)
-      go false false e free = absurd (false≢true (sym (fine-row _ _ _ _ _ e).0))
+      go true a kind _ e free = with-task e kind free
+      go false true _ kind e free = rw (its-tasks h ts accesses) (with-access e kind)
+      go false false _ _ e free = absurd (false≢true (sym (fine-row _ _ _ _ _ e).0))
 
 -- ---- the reading, on from a table through these lines
 

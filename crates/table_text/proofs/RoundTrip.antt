@@ -1,6 +1,6 @@
 -- Reading and writing go back and forth: a text that is accepted is its table's text, and the text of a table that passes the tests is accepted as that table.
 -- So the tests tell just which tables a text gives.
-use Rattle.std.proofs.Common.{◌≡◌, ℕ, zero, suc, ◌+◌, ◌-◌, ◌%◌, ◌≤◌, ◌<◌, Bool, true, false, ◌||◌, List, [], ◌∷◌, ◌++◌, length, take, drop, get_or, map, flat_map, refl, sym, ap, ◌∙◌, arith, length-append, append-nil, append_assoc, cond, Option, Some, None, Result, Ok, Err, leb-true, le-leb, le-ltb, leb, eqb, ltb, eqb-true, ltb-true}
+use Rattle.std.proofs.Common.{◌≡◌, ℕ, zero, suc, ◌+◌, ◌-◌, ◌%◌, ◌≤◌, ◌<◌, Bool, true, false, ◌||◌, List, [], ◌∷◌, ◌++◌, length, take, drop, get_or, map, flat_map, refl, sym, ap, ◌∙◌, arith, length-append, append-nil, append_assoc, cond, Some, None, Result, Ok, Err, leb-true, le-leb, le-ltb, eqb, ltb, eqb-true, ltb-true}
 use Rattle.std.proofs.Math.Seq.{length-take-le, get_or-take}
 use Rattle.std.proofs.lemmas.Bool.{false≢true, lt-leb}
 use Rattle.std.proofs.lemmas.List.{map-append}

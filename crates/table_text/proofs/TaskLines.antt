@@ -1,13 +1,12 @@
 -- Line 1 and the line of a task: a line that says what is tested here is not refused and says the same again, and a line that is not refused is what is written of
 -- what it says, which passes the tests.
-use Rattle.std.proofs.Common.{◌≡◌, ℕ, ◌%◌, ◌≤◌, ◌<◌, Bool, true, false, not, ◌&&◌, ◌||◌, ◌⊎◌, inl, inr, List, [], ◌∷◌, length, get_or, refl, ap, ◌∙◌, arith, Option, Some, None, Ok, eqb-true, eqb, ltb-false}
+use Rattle.std.proofs.Common.{◌≡◌, ℕ, ◌%◌, ◌≤◌, ◌<◌, Bool, true, false, not, ◌&&◌, ◌||◌, ◌⊎◌, inl, inr, List, [], ◌∷◌, length, get_or, refl, ap, ◌∙◌, arith, Option, Some, None, Ok, eqb-true, eqb, ltb-false, codes, ◌==◌}
 use Rattle.std.proofs.lemmas.Bool.{false≢true, not-false, not-true}
 use Rattle.std.proofs.lemmas.Slice.Eq.{bytes_eq-Decides}
 use Rattle.std.specs.Prelude.{is_some, unwrap_or, option_map, slice_get}
 use Rattle.std.specs.Str.{bytes_eq}
 use Rattle.table.specs.Cut.{fields, field, field_count}
-use Rattle.table.specs.Fields.{is_letter, is_name, read_number, is_number, number, has_shape, is_within}
-use Rattle.cache.specs.declared.sets.CacheSet.{CacheSet}
+use Rattle.table.specs.Fields.{is_of_kind, is_name, read_number, is_number, number, has_shape, is_within}
 use Rattle.cache.specs.Field.{read_set}
 use Rattle.cache.specs.declared.useful.Form.{Form}
 use Rattle.cache.specs.declared.useful.Form.TheVariants.{Hex, Digits}
@@ -21,7 +20,7 @@ use Rattle.table.specs.Tasks.{name_text, pack_name, no_sets, no_blocks}
 use Rattle.table.specs.Names.{is_filled, knows}
 use Rattle.table.specs.HeadLine.{is_head, ways_field, read_form, head_in_range, head_rows, head_said}
 use Rattle.table.specs.TaskLine.{times_of, times_said, times_in_range, times_in_order, task_rows, task_said, has_blocking}
-use Rattle.table.specs.Reading.{is_blocked}
+use Rattle.table.specs.Reading.{is_blocked, is_task_line}
 use Rattle.table.proofs.Names.{name-kept}
 use Rattle.table.proofs.LineLaws.{both, lies, ranges, order}
 use Rattle.writing.specs.Text.{spelled}
@@ -59,11 +58,11 @@ marks-are none None e = absurd (false≢true e)
 -- ---- shapes
 
 -- of a line that has its kind's shape, the first field and the number of fields
-pub shape-says : (letter n : ℕ) (line : List ℕ) → has_shape letter n line ≡ true → (field 0 line ≡ letter ∷ []) × (field_count line ≡ n)
+pub shape-says : (letter : List ℕ) (n : ℕ) (line : List ℕ) → has_shape letter n line ≡ true → (field 0 line ≡ letter) × (field_count line ≡ n)
 unfolding has_shape
 shape-says letter n line e =
-    let p = both (is_letter letter (field 0 line)) (eqb (field_count line) n) e in
-    ((bytes_eq-Decides (field 0 line) (letter ∷ [])).0 p.0, eqb-true (field_count line) n p.1)
+    let p = both (is_of_kind letter line) (eqb (field_count line) n) e in
+    ((bytes_eq-Decides (field 0 line) letter).0 p.0, eqb-true (field_count line) n p.1)
 
 -- a list of so many fields is these
 pub three-of : (l : List (List ℕ)) → length l ≡ 3 → l ≡ get_or l 0 [] ∷ get_or l 1 [] ∷ get_or l 2 [] ∷ []
@@ -123,7 +122,7 @@ ways-read Hex a b c w = refl
 ways-read (Digits ways) a b c w = let small : ways < 1000000000 = omega arith in rw (number_read ways small) refl
 
 -- it has three fields or four
-shape-of : (form : Form) (l b c : List ℕ) → fields l ≡ (75 ∷ []) ∷ b ∷ c ∷ ways_fields form → is_head l ≡ true
+shape-of : (form : Form) (l b c : List ℕ) → fields l ≡ codes "K" ∷ b ∷ c ∷ ways_fields form → is_head l ≡ true
 unfolding is_head has_shape
 shape-of Hex l b c f = rw f refl
 shape-of (Digits ways) l b c f = rw f refl
@@ -131,7 +130,7 @@ shape-of (Digits ways) l b c f = rw f refl
 -- a line with these fields says this head, and is not refused
 module _ (h : Head) (e : head_in_range h ≡ true) (l : List ℕ) (f : fields l ≡ head_fields h.sets h.brt.0 h.form) where
   pub head-says : head_said l ≡ h
-  head-says = let s = head-small h e in rw (f, number_read h.sets s.0, number_read h.brt.0 s.1, ways-read h.form (75 ∷ []) (spelled h.sets) (spelled h.brt.0) s.4)
+  head-says = let s = head-small h e in rw (f, number_read h.sets s.0, number_read h.brt.0 s.1, ways-read h.form (codes "K") (spelled h.sets) (spelled h.brt.0) s.4)
 
   pub head-fine : unless_fault (head_rows l) (tt {0}) ≡ Ok (tt {0})
   unfolding unless_fault
@@ -142,7 +141,7 @@ module _ (h : Head) (e : head_in_range h ≡ true) (l : List ℕ) (f : fields l 
         f,
         number_read h.sets s.0,
         number_read h.brt.0 s.1,
-        ways-read h.form (75 ∷ []) (spelled h.sets) (spelled h.brt.0) s.4,
+        ways-read h.form (codes "K") (spelled h.sets) (spelled h.brt.0) s.4,
         e,
       )
 
@@ -177,13 +176,13 @@ three-or-four (a ∷ b ∷ c ∷ d ∷ []) h = refl
 three-or-four (a ∷ b ∷ c ∷ d ∷ g ∷ l) (inl h) = absurd (omega arith)
 three-or-four (a ∷ b ∷ c ∷ d ∷ g ∷ l) (inr h) = absurd (omega arith)
 
-head-shape : (l : List ℕ) → is_head l ≡ true → (field 0 l ≡ 75 ∷ []) × ((field_count l ≡ 3) ⊎ (field_count l ≡ 4))
+head-shape : (l : List ℕ) → is_head l ≡ true → (field 0 l ≡ codes "K") × ((field_count l ≡ 3) ⊎ (field_count l ≡ 4))
 unfolding is_head
-head-shape l e = go (has_shape 75 3 l) refl e
+head-shape l e = go (has_shape (codes "K") 3 l) refl e
   where
-    go : (t : Bool) → has_shape 75 3 l ≡ t → (t || has_shape 75 4 l) ≡ true → (field 0 l ≡ 75 ∷ []) × ((field_count l ≡ 3) ⊎ (field_count l ≡ 4))
-    go true q e = let s = shape-says 75 3 l q in (s.0, inl s.1)
-    go false q e = let s = shape-says 75 4 l e in (s.0, inr s.1)
+    go : (t : Bool) → has_shape (codes "K") 3 l ≡ t → (t || has_shape (codes "K") 4 l) ≡ true → (field 0 l ≡ codes "K") × ((field_count l ≡ 3) ⊎ (field_count l ≡ 4))
+    go true q e = let s = shape-says (codes "K") 3 l q in (s.0, inl s.1)
+    go false q e = let s = shape-says (codes "K") 4 l e in (s.0, inr s.1)
 
 -- a line that is not refused
 module _ (l : List ℕ) (e : unless_fault (head_rows l) (tt {0}) ≡ Ok (tt {0})) where
@@ -252,7 +251,7 @@ module _ (form : Form) (w : ways_of form ≤ 8) (sets : ℕ) (few : sets ≤ 256
     task-free = rw (f, number_read 0 (omega arith)) refl
 
     pub task-fine : unless_fault (task_rows form sets above l) (tt {0}) ≡ Ok (tt {0})
-    unfolding task_rows unless_fault has_shape
+    unfolding task_rows unless_fault
     task-fine =
         let n = small in
         rw (
@@ -275,7 +274,7 @@ module _ (form : Form) (w : ways_of form ≤ 8) (sets : ℕ) (few : sets ≤ 256
   -- a line that is not refused
   module _ (above : List Task) (l : List ℕ) (e : unless_fault (task_rows form sets above l) (tt {0}) ≡ Ok (tt {0})) where
     record Rows : Type 0 where
-      shape : has_shape 84 9 l ≡ true
+      nine : (field_count l == 9) ≡ true
       name : is_name (field 1 l) ≡ true
       numbers : (is_number (field 2 l) && is_number (field 3 l) && is_number (field 4 l) && is_number (field 5 l) && is_number (field 6 l)) ≡ true
       in-range : times_in_range (times_said (field 2 l) (field 3 l) (field 4 l) (field 5 l)) ≡ true
@@ -296,7 +295,7 @@ module _ (form : Form) (w : ways_of form ≤ 8) (sets : ℕ) (few : sets ≤ 256
         let r7 = fine-row _ _ _ _ _ r6.1 in
         let r8 = fine-row _ _ _ _ _ r7.1 in
         record {
-          shape = not-false _ r1.0;
+          nine = not-false _ r1.0;
           name = not-false _ r2.0;
           numbers = not-false _ r3.0;
           in-range = (both _ (is_within 0 250000000 (number (field 6 l))) (not-false _ r4.0)).0;
@@ -327,9 +326,9 @@ module _ (form : Form) (w : ways_of form ≤ 8) (sets : ℕ) (few : sets ≤ 256
         )
 
     -- where its B is 0
-    pub task-is : has_blocking l ≡ false → fields l ≡ task_fields form sets (task_said form sets l)
+    pub task-is : is_task_line l ≡ true → has_blocking l ≡ false → fields l ≡ task_fields form sets (task_said form sets l)
     unfolding task_said
-    task-is free =
+    task-is kind free =
         let p6 = both _ (is_number (field 6 l)) rows.numbers in
         let p5 = both _ (is_number (field 5 l)) p6.0 in
         let p4 = both _ (is_number (field 4 l)) p5.0 in
@@ -338,7 +337,7 @@ module _ (form : Form) (w : ways_of form ≤ 8) (sets : ℕ) (few : sets ≤ 256
         let r = ranges times rows.in-range in
         let o = order times rows.in_order in
         let zero : number (field 6 l) ≡ 0 = let low = ltb-false 0 _ free in omega arith in
-        let shape = shape-says 84 9 l rows.shape in
+        let letter = (bytes_eq-Decides (field 0 l) (codes "T")).0 kind in
         rw (
           name-kept (field 1 l) rows.name,
           ← number-text (field 2 l) p3.0 (omega arith),
@@ -349,5 +348,5 @@ module _ (form : Form) (w : ways_of form ≤ 8) (sets : ℕ) (few : sets ≤ 256
           ← ucb-says.1,
           ← read-text sets few by-four (field 8 l) _ sets-say.1,
         )
-        (nine-of (fields l) shape.1
-        ∙ ap (λ (f : List ℕ). f ∷ field 1 l ∷ field 2 l ∷ field 3 l ∷ field 4 l ∷ field 5 l ∷ field 6 l ∷ field 7 l ∷ field 8 l ∷ []) shape.0)
+        (nine-of (fields l) (eqb-true (field_count l) 9 rows.nine)
+        ∙ ap (λ (f : List ℕ). f ∷ field 1 l ∷ field 2 l ∷ field 3 l ∷ field 4 l ∷ field 5 l ∷ field 6 l ∷ field 7 l ∷ field 8 l ∷ []) letter)

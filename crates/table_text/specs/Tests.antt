@@ -1,5 +1,6 @@
 -- The tests by which a table value is found to be one that a text gives: those of the reader, on a table that is there already.
 use Rattle.std.specs.Prelude.{ℕ, Bool, true, not, ◌&&◌, List, [], ◌∷◌, ◌++◌, drop, replicate, length, nat_le, nat_lt, ◌==◌}
+use Rattle.cache.specs.declared.units.TheConstants.Ticks.{LONGEST}
 use Rattle.std.specs.List.{list_all}
 use Rattle.std.specs.Str.{bytes_eq}
 use Rattle.table.specs.Fields.{is_within}
@@ -14,6 +15,7 @@ use Rattle.cache.specs.declared.useful.Form.TheVariants.{Hex}
 use Rattle.writing.specs.Marks.{marks_fit, useful_fits}
 use Rattle.table_text.specs.TableText.{table_text}
 use Rattle.table.specs.declared.Table.{Table}
+use Rattle.table.specs.declared.TheConstants.Table.{LONGEST_TEXT, MOST_TASKS, MOST_ACCESSES}
 use Rattle.table.specs.Tables.{tasks_of, accesses_of}
 
 -- what line 1 says of a table
@@ -36,7 +38,7 @@ are_next form sets above (t ∷ ts) = is_next form sets above t && are_next form
 
 -- an access that a line can say in a table of this form with so many cache sets, below so many tasks
 unfoldable pub is_entered : Form → (sets count : ℕ) → Access → Bool
-is_entered form sets count a = is_within 1 250000000 a.lasts.0 && useful_fits form sets a.ucb && nat_lt a.task count && nat_le a.ceiling a.task
+is_entered form sets count a = is_within 1 LONGEST a.lasts.0 && useful_fits form sets a.ucb && nat_lt a.task count && nat_le a.ceiling a.task
 
 -- a place without a task, as the reader leaves it: zeros alone
 unfoldable pub is_vacant : Task → Bool
@@ -57,8 +59,8 @@ is_unused a = a.task == 0 && a.ceiling == 0 && a.lasts.0 == 0 && useful_fits Hex
 -- empty
 unfoldable pub has_lines : Table → Bool
 has_lines table =
-    nat_le table.count 32
-    && nat_le table.access_count 32
+    nat_le table.count MOST_TASKS
+    && nat_le table.access_count MOST_ACCESSES
     && head_in_range (head_of table)
     && nat_lt 0 table.count
     && are_next table.form table.sets [] (tasks_of table)
@@ -68,4 +70,4 @@ has_lines table =
 
 -- and the text is no longer than one that is read
 abbrev pub is_readable : Table → Bool
-is_readable table = has_lines table && nat_le (length (table_text table)) 16384
+is_readable table = has_lines table && nat_le (length (table_text table)) LONGEST_TEXT

@@ -1,11 +1,12 @@
 // How long the text of a table is, told without writing it: of a table value that no text gives it may be longer than one that is read.
 
 ghost use Rattle.std.specs.Prelude.{◌≡◌, ◌+◌, ◌*◌, ◌≤◌, ◌<◌, length, flat_map};
+ghost use Rattle.cache.specs.declared.sets.TheConstants.CacheSet.{MOST_SETS};
 ghost use Rattle.cache.specs.declared.useful.Useful.{Useful};
 ghost use Rattle.table.specs.Tables.{tasks_of, accesses_of};
 ghost use Rattle.writing.specs.Text.{spelled};
 ghost use Rattle.writing.specs.Marks.{useful_text};
-ghost use Rattle.table_text.specs.TableText.{head_fields, task_fields, access_fields, line_text, table_text};
+ghost use Rattle.table_text.specs.TableText.{head_fields, task_fields, access_fields, line_text, tasks_text, accesses_text, table_text};
 ghost use Rattle.table_text.specs.Delivered.{NamesTasks};
 
 use cache::useful::Form;
@@ -24,7 +25,7 @@ fn number_len(n: u64) -> usize
 
 // How long a field of useful blocks is, with the tab before it.
 fn useful_len(form: Form, sets: u64) -> usize
-    requires { sets ≤ 256 }
+    requires { sets ≤ MOST_SETS }
     ensures is { (u : Useful) → result ≡ 1 + length (useful_text form sets u) }
     ensures few { result ≤ 257 }
 {
@@ -46,7 +47,7 @@ fn head_len(sets: u64, brt: u64, form: Form) -> usize
 }
 
 fn task_len(form: Form, sets: u64, task: &Task) -> usize
-    requires { sets ≤ 256 }
+    requires { sets ≤ MOST_SETS }
     ensures is { result ≡ length (line_text (task_fields form sets task.now)) }
     ensures few { result ≤ 1000 }
 {
@@ -61,7 +62,7 @@ fn task_len(form: Form, sets: u64, task: &Task) -> usize
 
 #[tactic(auto, unfolding(table::specs::Tables::at))]
 fn access_len(table: &Table, access: &Access) -> usize
-    requires bounds { (table.now.sets ≤ 256) × (table.now.count ≤ 32) }
+    requires bounds { (table.now.sets ≤ MOST_SETS) × (table.now.count ≤ Table.MOST_TASKS) }
     requires known { (access.now.task < table.now.count) × (access.now.ceiling < table.now.count) }
     ensures is { result ≡ length (line_text (access_fields table.now.form table.now.sets (tasks_of table.now) access.now)) }
     ensures few { result ≤ 1000 }
@@ -71,8 +72,8 @@ fn access_len(table: &Table, access: &Access) -> usize
 }
 
 fn tasks_len(table: &Table) -> usize
-    requires { (table.now.sets ≤ 256) × (table.now.count ≤ 32) }
-    ensures is { result ≡ length (flat_map (λ t. line_text (task_fields table.now.form table.now.sets t)) (tasks_of table.now)) }
+    requires { (table.now.sets ≤ MOST_SETS) × (table.now.count ≤ Table.MOST_TASKS) }
+    ensures is { result ≡ length (tasks_text table.now) }
     ensures few { result ≤ 32000 }
 {
     let mut len = 0;
@@ -83,9 +84,9 @@ fn tasks_len(table: &Table) -> usize
 }
 
 fn accesses_len(table: &Table) -> usize
-    requires bounds { (table.now.sets ≤ 256) × (table.now.count ≤ 32) × (table.now.access_count ≤ 32) }
+    requires bounds { (table.now.sets ≤ MOST_SETS) × (table.now.count ≤ Table.MOST_TASKS) × (table.now.access_count ≤ Table.MOST_ACCESSES) }
     requires known { NamesTasks table.now.count (accesses_of table.now) }
-    ensures is { result ≡ length (flat_map (λ a. line_text (access_fields table.now.form table.now.sets (tasks_of table.now) a)) (accesses_of table.now)) }
+    ensures is { result ≡ length (accesses_text table.now) }
     ensures few { result ≤ 32000 }
 {
     let mut len = 0;
@@ -97,7 +98,7 @@ fn accesses_len(table: &Table) -> usize
 
 // How long the text of a table is.
 pub fn length(table: &Table) -> usize
-    requires bounds { (table.now.sets ≤ 256) × (table.now.count ≤ 32) × (table.now.access_count ≤ 32) }
+    requires bounds { (table.now.sets ≤ MOST_SETS) × (table.now.count ≤ Table.MOST_TASKS) × (table.now.access_count ≤ Table.MOST_ACCESSES) }
     requires known { NamesTasks table.now.count (accesses_of table.now) }
     ensures { result ≡ length (table_text table.now) }
 {

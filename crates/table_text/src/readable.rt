@@ -1,20 +1,19 @@
 // Whether a table value is one that a text gives. specs/Readable.antt says what that means, and specs/Tests.antt has the tests.
 
-ghost use Rattle.std.specs.Prelude.{◌≡◌, ◌↔◌, IsTrue, [], drop};
+ghost use Rattle.std.specs.Prelude.{◌≡◌, ◌↔◌, IsTrue, [], drop, is_some, IfSome};
 ghost use Rattle.std.specs.List.{list_all};
 ghost use Rattle.table.specs.Tables.{tasks_of, accesses_of};
 ghost use Rattle.table_text.specs.Readable.{Whole, Readable};
 ghost use Rattle.table_text.specs.Tests.{head_of, is_next, are_next, is_entered, is_vacant, is_unused, has_lines, is_readable};
 
 use crate::extent;
+use cache::units::Ticks;
 use cache::useful::Form;
+use table::accepted::Accepted;
 use table::accesses::Access;
 use table::tasks::{Head, Task, is_known};
 use table::{Table, fields};
 use writing::marks::{marks_fit, useful_fits};
-
-// No text that is read is longer.
-const LONGEST: usize = 16384;
 
 // Whether a line can say a task in a table of this form with so many cache sets, below these tasks.
 #[tactic(auto, unfolding(crate::specs::Tests::is_next))]
@@ -45,7 +44,7 @@ fn are_next(form: Form, sets: u64, tasks: &[Task]) -> bool
 fn is_entered(form: Form, sets: u64, count: usize, access: &Access) -> bool
     ensures { result ≡ is_entered form sets count access.now }
 {
-    fields::is_within(1, 250000000, access.lasts.0)
+    fields::is_within(1, Ticks::LONGEST, access.lasts.0)
         & useful_fits(form, sets, &access.ucb)
         & (access.task < count)
         & (access.ceiling <= access.task)
@@ -104,7 +103,7 @@ fn has_lines(table: &Table) -> bool
 {
     let places = &table.tasks;
     let access_places = &table.accesses;
-    if 32 < table.count || 32 < table.access_count {
+    if Table::MOST_TASKS < table.count || Table::MOST_ACCESSES < table.access_count {
         return false;
     }
     let head = Head {
@@ -121,9 +120,22 @@ fn has_lines(table: &Table) -> bool
 }
 
 // Whether some accepted text reads as this table.
-pub fn is_readable(table: &Table) -> bool
+fn is_readable(table: &Table) -> bool
     ensures test { result ≡ is_readable table.now }
     ensures meant { IsTrue result ↔ Readable table.now }
 {
-    has_lines(table) && extent::length(table) <= LONGEST
+    has_lines(table) && extent::length(table) <= Table::LONGEST_TEXT
+}
+
+// The table as an accepted one, where some accepted text reads as it.
+pub fn accepted<'a>(table: &'a Table) -> Option<Accepted<'a>>
+    ensures test { is_some result ≡ is_readable table.now }
+    ensures meant { IsTrue (is_some result) ↔ Readable table.now }
+    ensures same { IfSome result (λ accepted. accepted.table.now ≡ table.now) }
+{
+    if is_readable(table) {
+        Some(Accepted { table })
+    } else {
+        None
+    }
 }

@@ -8,19 +8,19 @@ use Rattle.table.specs.declared.refusals.Refusal.{Refusal}
 use Rattle.table.specs.Numbers.{reason_number, untold}
 use Rattle.table.proofs.NumberLaws.{number-small}
 use Rattle.writing.proofs.Spelling.{spelled_short}
-use Rattle.writing.specs.Delivery.{Put, PutAt, Delivered}
+use Rattle.writing.specs.Delivery.{PutsText, PutsTextAt, DeliversText}
 use Rattle.writing.specs.Error.{error_text}
 
 -- what is delivered, of a text that fits and of one that does not
-pub fitting : {text out d : List ℕ} {r : Result ℕ Refusal} → length text ≤ length out → Delivered text out r d → (r ≡ Ok (length text)) × Put text out (length text) d
+pub fitting : {text out d : List ℕ} {r : Result ℕ Refusal} → length text ≤ length out → DeliversText text out r d → (r ≡ Ok (length text)) × PutsText text out (length text) d
 fitting fits w = (rw (le-leb _ _ fits) at w.answer, record { length-is = refl; buffer-is = rw (le-leb _ _ fits) at w.buffer })
 
-pub too_long : {text out d : List ℕ} {r : Result ℕ Refusal} → length out < length text → Delivered text out r d → (r ≡ Err (untold ShortBuffer)) × (d ≡ out)
+pub too_long : {text out d : List ℕ} {r : Result ℕ Refusal} → length out < length text → DeliversText text out r d → (r ≡ Err (untold ShortBuffer)) × (d ≡ out)
 too_long long w = (rw (lt-leb _ _ long) at w.answer, rw (lt-leb _ _ long) at w.buffer)
 
 -- one text behind another, both from a place on
-pub put-more : (s t : List ℕ) (at : ℕ) {before o after : List ℕ} {e end : ℕ} → at + length s ≤ length before → PutAt s at before e o → PutAt t e o end after
-    → PutAt (s ++ t) at before end after
+pub put-more : (s t : List ℕ) (at : ℕ) {before o after : List ℕ} {e end : ℕ} → at + length s ≤ length before → PutsTextAt s at before e o → PutsTextAt t e o end after
+    → PutsTextAt (s ++ t) at before end after
 put-more s t at {before} {o} {after} {e} {end} room p q =
     let P = take at before ++ s in
     let rest = drop (at + length s) before in
@@ -40,7 +40,7 @@ put-more s t at {before} {o} {after} {e} {end} room p q =
     }
 
 -- nothing yet
-pub put-nothing : (at : ℕ) (before : List ℕ) → PutAt [] at before at before
+pub put-nothing : (at : ℕ) (before : List ℕ) → PutsTextAt [] at before at before
 put-nothing at before = record {
   end-is = omega arith;
   buffer-is =
@@ -48,11 +48,11 @@ put-nothing at before = record {
 }
 
 -- where the buffer is shorter than the text
-pub short-buffer : {text before : List ℕ} → length before < length text → Delivered text before (Err (untold ShortBuffer)) before
+pub short-buffer : {text before : List ℕ} → length before < length text → DeliversText text before (Err (untold ShortBuffer)) before
 short-buffer long = record { answer = rw (lt-leb _ _ long); buffer = rw (lt-leb _ _ long) }
 
 -- a whole text, from the start on
-pub put-delivered : {text before after : List ℕ} {end : ℕ} → length text ≤ length before → PutAt text 0 before end after → Delivered text before (Ok end) after
+pub put-delivered : {text before after : List ℕ} {end : ℕ} → length text ≤ length before → PutsTextAt text 0 before end after → DeliversText text before (Ok end) after
 put-delivered {text} {before} {after} {end} fits p =
     let e : end ≡ length text = omega (arith, p.end-is) in
     record {

@@ -1,27 +1,23 @@
 -- The field of useful blocks and its reading: what is written is read as they are, and a field that is read is what is written of what it says.
-use Rattle.std.proofs.Common.{◌≡◌, refl, sym, ap, ap₂, ◌∙◌, Bool, true, false, cond, not, ◌&&◌, ◌||◌, List, [], ◌∷◌, map, ℕ, zero, suc, ◌+◌, ◌-◌, ◌%◌, ◌/◌, ◌^◌, ◌≤◌, ◌<◌, min, lt_of_lt_of_le, pow_mono, arith, lit<, length, get_or, replicate, ext_get_or, leb, ltb, eqb, bit_and, le-leb, lt-ltb, le-ltb, eq-eqb, ne_eqb, eqb-true, leb-true, ltb-true, ltb-false}
+use Rattle.std.proofs.Common.{◌≡◌, refl, sym, ap, ◌∙◌, Bool, true, false, cond, ◌||◌, List, ℕ, zero, suc, ◌-◌, ◌%◌, ◌≤◌, ◌<◌, arith, lit<, length, get_or, ext_get_or, ltb, eqb, le-leb, le-ltb, eq-eqb, ne_eqb, eqb-true}
 use Rattle.std.proofs.Math.Bool.{and-eq-true_iff}
 use Rattle.std.proofs.Math.Decide.{dec_lt}
-use Rattle.std.proofs.Math.Path.{fun_ext}
 use Rattle.std.proofs.lemmas.Bool.{false≢true}
 use Rattle.std.proofs.lemmas.List.{get_or_past}
-use Rattle.std.specs.Prelude.{Option, Some, None, option_map}
-use Rattle.std.specs.List.{list_all}
+use Rattle.std.specs.Prelude.{Some, option_map}
 use Rattle.cache.specs.declared.sets.CacheSet.{CacheSet}
 use Rattle.cache.specs.declared.useful.Form.{Form}
 use Rattle.cache.specs.declared.useful.Form.TheVariants.{Hex, Digits}
 use Rattle.cache.specs.declared.useful.Useful.{Useful}
 use Rattle.cache.specs.Sets.{Set, ∅, ◌∩◌}
-use Rattle.cache.specs.Words.{bits_of, number_of, words_of, members, is_blank, is_part}
-use Rattle.cache.specs.Field.{read_set}
+use Rattle.cache.specs.Words.{members, is_blank, is_part}
 use Rattle.cache.specs.Counts.{Counts, nothing, of_set, ◌⊕◌, capped}
-use Rattle.cache.specs.Levels.{set_at, level, heights, counts, above, set_of, leveled, marked}
-use Rattle.cache.specs.UsefulField.{ways_of, is_digit, counts_of, read_useful, within_ways}
-use Rattle.cache.proofs.SetLaws.{and_left, and_right}
+use Rattle.cache.specs.Levels.{set_at, level, heights, counts, leveled, marked}
+use Rattle.cache.specs.UsefulField.{ways_of, read_useful, within_ways}
+use Rattle.cache.proofs.SetLaws.{and_right}
 use Rattle.cache.proofs.WordLaws.{WordsInRange, members-empty, part-shared}
 use Rattle.cache.proofs.CountLaws.{capped-within}
 use Rattle.cache.proofs.LevelLaws.{heights-le}
-use Rattle.cache.proofs.FieldLaws.{no-bit}
 use Rattle.cache.proofs.StackLaws.{Stacked, leveled-back}
 use Rattle.writing.specs.Marks.{marks_text, marks_fit, count_digits, useful_text, level_fits, useful_fits}
 use Rattle.writing.proofs.CountDigits.{counts-long, written-counts, digits-are, digits-within}

@@ -1,5 +1,5 @@
 -- A field of useful blocks that is read: what it says fits, and the field is what is written of it.
-use Rattle.std.proofs.Common.{◌≡◌, refl, sym, ap, ap₂, ◌∙◌, Bool, true, false, cond, ◌&&◌, ◌||◌, List, [], ◌∷◌, map, ℕ, zero, suc, ◌+◌, ◌-◌, ◌*◌, ◌%◌, ◌^◌, ◌≤◌, ◌<◌, min, lt_of_le_of_lt, pow_mono, lt_of_lt_of_le, zero-le, mod-lt, arith, lit<, length, get_or, pow-suc, pow_pos, leb, ltb, eqb, bit_and, lt-ltb, le-ltb, eq-eqb, ne_eqb, eqb-true, leb-true, ltb-true, ltb-false}
+use Rattle.std.proofs.Common.{◌≡◌, refl, sym, ap, ap₂, ◌∙◌, Bool, true, false, cond, ◌&&◌, ◌||◌, List, [], ◌∷◌, ℕ, zero, suc, ◌+◌, ◌-◌, ◌*◌, ◌%◌, ◌^◌, ◌≤◌, ◌<◌, min, lt_of_le_of_lt, zero-le, arith, length, pow-suc, pow_pos, leb, ltb, eqb, bit_and, lt-ltb, le-ltb, eq-eqb, ne_eqb, eqb-true, leb-true, ltb-true, ltb-false}
 use Rattle.std.proofs.Math.Bool.{and-eq-true_iff}
 use Rattle.std.proofs.Math.Decide.{dec_lt}
 use Rattle.std.proofs.Math.Path.{fun_ext}
@@ -11,10 +11,10 @@ use Rattle.cache.specs.declared.useful.Form.{Form}
 use Rattle.cache.specs.declared.useful.Form.TheVariants.{Hex, Digits}
 use Rattle.cache.specs.declared.useful.Useful.{Useful}
 use Rattle.cache.specs.Sets.{Set, ◌∩◌}
-use Rattle.cache.specs.Words.{bits_of, number_of, words_of, members, is_blank, is_part}
+use Rattle.cache.specs.Words.{words_of, members, is_blank, is_part}
 use Rattle.cache.specs.Field.{read_set}
 use Rattle.cache.specs.Counts.{Counts, nothing, of_set, ◌⊕◌, capped}
-use Rattle.cache.specs.Levels.{set_at, level, heights, counts, above, number_below, set_of, leveled, marked}
+use Rattle.cache.specs.Levels.{set_at, heights, counts, above, number_below, set_of, leveled, marked}
 use Rattle.cache.specs.UsefulField.{ways_of, is_digit, push, counts_of, read_counts, read_useful, within_ways}
 use Rattle.cache.proofs.WordLaws.{WordsInRange, each, members-and, members-inj}
 use Rattle.cache.proofs.CountLaws.{capped-within}

@@ -5,12 +5,12 @@ use Rattle.table.specs.declared.refusals.Refusal.{Refusal}
 use Rattle.table.specs.Numbers.{untold}
 
 -- the text at the buffer's start, and after it the buffer as it was
-pub record Put (text before : List ℕ) (end : ℕ) (after : List ℕ) : Type 0 where
+pub record PutsText (text before : List ℕ) (end : ℕ) (after : List ℕ) : Type 0 where
   pub length-is : end ≡ length text
   pub buffer-is : after ≡ text ++ drop (length text) before
 
 -- the text from a place on, and before and after it the buffer as it was
-pub record PutAt (text : List ℕ) (at : ℕ) (before : List ℕ) (end : ℕ) (after : List ℕ) : Type 0 where
+pub record PutsTextAt (text : List ℕ) (at : ℕ) (before : List ℕ) (end : ℕ) (after : List ℕ) : Type 0 where
   pub end-is : end ≡ at + length text
   pub buffer-is : after ≡ take at before ++ text ++ drop (at + length text) before
 
@@ -23,6 +23,6 @@ written_of text before =
 abbrev pub buffer_of : List ℕ → List ℕ → List ℕ
 buffer_of text before = if nat_le (length text) (length before) then text ++ drop (length text) before else before
 
-pub record Delivered (text before : List ℕ) (written : Result ℕ Refusal) (after : List ℕ) : Type 0 where
+pub record DeliversText (text before : List ℕ) (written : Result ℕ Refusal) (after : List ℕ) : Type 0 where
   pub answer : written ≡ written_of text before
   pub buffer : after ≡ buffer_of text before

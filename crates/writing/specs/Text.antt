@@ -1,5 +1,5 @@
 -- The text of a number, of a field and of a line.
-use Rattle.std.specs.Prelude.{ℕ, zero, suc, ◌+◌, ◌/◌, ◌%◌, Bool, true, false, List, [], ◌∷◌, ◌++◌, flat_map, if◌then◌else◌, nat_lt}
+use Rattle.std.specs.Prelude.{ℕ, zero, suc, ◌+◌, ◌/◌, ◌%◌, Bool, true, false, List, [], ◌∷◌, ◌++◌, flat_map, if◌then◌else◌, nat_lt, codes}
 
 -- the byte of a digit
 abbrev pub digit_byte : ℕ → ℕ
@@ -35,5 +35,5 @@ line_of first others = first ++ flat_map after_tab others ++ (10 ∷ [])
 
 -- `yes` or `no`
 abbrev pub yes_no : Bool → List ℕ
-yes_no true = 121 ∷ 101 ∷ 115 ∷ []
-yes_no false = 110 ∷ 111 ∷ []
+yes_no true = codes "yes"
+yes_no false = codes "no"

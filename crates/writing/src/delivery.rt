@@ -2,7 +2,7 @@
 
 ghost use Rattle.std.specs.Prelude.{◌≡◌, ◌+◌, ◌≤◌, ◌++◌, length};
 ghost use Rattle.writing.specs.declared.writer.TheConstants.{ROOM};
-ghost use Rattle.writing.specs.Delivery.{Put, PutAt, Delivered};
+ghost use Rattle.writing.specs.Delivery.{PutsText, PutsTextAt, DeliversText};
 ghost use Rattle.writing.specs.Error.{error_text};
 
 use crate::writer::Draft;
@@ -11,7 +11,7 @@ use table::refusals::{Reason, Refusal};
 // A text at the start of a buffer: how long it is.
 pub fn put(text: &[u8], out: &mut [u8]) -> usize
     requires { length text.now ≤ length out.old }
-    ensures { Put text.now out.old result out.new }
+    ensures { PutsText text.now out.old result out.new }
 {
     out[..text.len()].copy_from_slice(text);
     text.len()
@@ -20,7 +20,7 @@ pub fn put(text: &[u8], out: &mut [u8]) -> usize
 // A text in its place in a buffer, behind what stands there already: where the next one begins.
 pub fn put_at(text: &[u8], at: usize, out: &mut [u8]) -> usize
     requires { at + length text.now ≤ length out.old }
-    ensures { PutAt text.now at out.old result out.new }
+    ensures { PutsTextAt text.now at out.old result out.new }
 {
     let end = at + text.len();
     out[at..end].copy_from_slice(text);
@@ -29,7 +29,7 @@ pub fn put_at(text: &[u8], at: usize, out: &mut [u8]) -> usize
 
 // All of a text, or nothing where the buffer is too short.
 pub fn deliver(text: &[u8], out: &mut [u8]) -> Result<usize, Refusal>
-    ensures { Delivered text.now out.old result out.new }
+    ensures { DeliversText text.now out.old result out.new }
 {
     if out.len() < text.len() {
         return Err(Refusal::untold(Reason::ShortBuffer));

@@ -38,7 +38,7 @@ fn words_of(marks: CacheSet) -> [u64; 4]
 
 // A tab and the field of a set, the most significant word first. A word that has no cache set has no digit.
 pub fn write_marks(draft: &mut Draft, sets: u64, marks: CacheSet)
-    requires sets_bound { sets ≤ 256 }
+    requires sets_bound { sets ≤ CacheSet.MOST_SETS }
     requires room { length draft.old + length (after_tab (marks_text sets marks)) ≤ ROOM }
     ensures { draft.new ≡ draft.old ++ after_tab (marks_text sets marks) }
 {
@@ -73,7 +73,7 @@ pub fn marks_fit(sets: u64, marks: CacheSet) -> bool
 
 // A digit for each cache set, the highest first.
 fn write_counts(draft: &mut Draft, sets: u64, useful: &Useful, ways: u64)
-    requires bounds { (sets ≤ 256) × (ways ≤ 8) }
+    requires bounds { (sets ≤ CacheSet.MOST_SETS) × (ways ≤ Useful.MOST_WAYS) }
     requires room { length draft.old + length (count_digits sets (counts ways useful.now)) ≤ ROOM }
     ensures { draft.new ≡ draft.old ++ count_digits sets (counts ways useful.now) }
 {
@@ -85,7 +85,7 @@ fn write_counts(draft: &mut Draft, sets: u64, useful: &Useful, ways: u64)
 // A tab and the field of useful blocks.
 #[tactic(auto, unfolding(crate::specs::Marks::useful_text))]
 pub fn write_useful(draft: &mut Draft, form: Form, sets: u64, useful: &Useful)
-    requires bounds { (sets ≤ 256) × (ways_of form ≤ 8) }
+    requires bounds { (sets ≤ CacheSet.MOST_SETS) × (ways_of form ≤ Useful.MOST_WAYS) }
     requires room { length draft.old + length (after_tab (useful_text form sets useful.now)) ≤ ROOM }
     ensures { draft.new ≡ draft.old ++ after_tab (useful_text form sets useful.now) }
 {

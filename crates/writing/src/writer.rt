@@ -174,12 +174,9 @@ impl Text for bool {
 
     fn write_to(&self, draft: &mut Draft) {
         if *self {
-            draft.push(b'y');
-            draft.push(b'e');
-            draft.push(b's');
+            draft.bytes(b"yes");
         } else {
-            draft.push(b'n');
-            draft.push(b'o');
+            draft.bytes(b"no");
         }
     }
 }

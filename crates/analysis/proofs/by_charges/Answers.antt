@@ -7,17 +7,15 @@ use Rattle.analysis.proofs.by_charges.Goals as goal
 
 pub terms-terms-requires : goal.terms-terms-requires
 terms-terms-requires c =
-    let a = c.args in (c.requires.0, c.requires.1, row-few a.table.now a.access.now a.method a.i c.requires.3 c.requires.0)
+    let a = c.args in row-few a.pending.table.now a.access.now a.method a.pending.i c.requires.1 c.args.pending.accepted
 
 pub by_terms-requires : goal.by_terms-requires
 by_terms-requires c =
     let a = c.args in
-    let p = c.requires in
-    rw (c.terms-terms.ensures, c.task.ensures) (row-handed a.table.now a.access.now a.method a.i p.0 p.1 p.4 c.requires.3 a.limit.0 p.2)
+    rw (c.terms-terms.ensures, c.task.ensures) (row-handed a.pending.table.now a.access.now a.method a.pending.i c.args.pending.accepted c.args.pending.held c.requires.2 c.requires.1 a.limit.0 c.requires.0)
 
 pub returns : goal.returns
 returns c =
     let a = c.args in
-    let p = c.requires in
     c.by_terms.ensures
-    ∙ ap (later a.so_far) (rw (c.terms-terms.ensures, c.task.ensures) (least-by-row a.table.now a.access.now a.method a.i p.0 p.1 p.4 c.requires.3 a.limit.0))
+    ∙ ap (later a.so_far) (rw (c.terms-terms.ensures, c.task.ensures) (least-by-row a.pending.table.now a.access.now a.method a.pending.i c.args.pending.accepted c.args.pending.held c.requires.2 c.requires.1 a.limit.0))

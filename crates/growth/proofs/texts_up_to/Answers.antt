@@ -1,6 +1,5 @@
 -- `growth::texts_up_to` meets its contract.
-use Rattle.std.proofs.Common.{◌/◌, ◌+◌, ◌≤◌, ◌≡◌, arith, sym, ◌∙◌, length, length-take}
-use Rattle.table.specs.Tables.{tasks_of}
+use Rattle.std.proofs.Common.{arith, sym, ◌∙◌, length-take}
 use Rattle.table_text.proofs.Lengths.{accesses-known}
 use Rattle.table_text.proofs.RoundTrip.{readable-short}
 use Rattle.growth.proofs.TriedLaws.{readable-table}

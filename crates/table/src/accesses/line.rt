@@ -1,6 +1,6 @@
 // An access line.
-ghost use Rattle.std.specs.Prelude.{◌≡◌, false, MatchOption};
-ghost use Rattle.table.specs.Fields.{has_shape};
+ghost use Rattle.std.specs.Prelude.{◌≡◌, false, MatchOption, ◌==◌};
+ghost use Rattle.table.specs.Cut.{field_count};
 ghost use Rattle.table.specs.Rows.{unless_fault};
 ghost use Rattle.table.specs.AccessLine.{AreAccessFields, access_rows, access_said};
 
@@ -13,7 +13,7 @@ use cache::units::Ticks;
 use cache::useful;
 use cache::useful::{Form, Useful};
 
-// The fields of an access line, behind the first.
+// The fields of an access line, behind the first, which says of what kind the line is.
 #[derive(Clone, Copy)]
 struct AccessFields<'a> {
     task: &'a [u8],
@@ -23,12 +23,10 @@ struct AccessFields<'a> {
 }
 
 fn cut(line: &[u8]) -> Option<AccessFields<'_>>
-    ensures { MatchOption result (has_shape 65 5 line.now ≡ false) (AreAccessFields line.now) }
+    ensures { MatchOption result ((field_count line.now == 5) ≡ false) (AreAccessFields line.now) }
 {
     let mut fields = Fields::of(line);
-    if fields.next()? != b"A".as_slice() {
-        return None;
-    }
+    fields.next()?;
     let cut = AccessFields {
         task: fields.next()?,
         ceiling: fields.next()?,
@@ -49,7 +47,7 @@ impl Access {
             return Err(Reason::Name);
         }
         let lasts = fields::read_number(fields.lasts).ok_or(Reason::Number)?;
-        if !fields::is_within(1, 250000000, lasts) {
+        if !fields::is_within(1, Ticks::LONGEST, lasts) {
             return Err(Reason::Range);
         }
         let ucb = Useful::from_field(fields.ucb, sets, form).ok_or(Reason::Marks)?;

@@ -6,6 +6,7 @@ ghost use Rattle.table.specs.HeadLine.{AreHeadFields, is_head, read_form, head_i
 use crate::fields;
 use crate::refusals::Reason;
 use crate::text::Fields;
+use cache::sets::CacheSet;
 use cache::units::Ticks;
 use cache::useful::{Form, Useful};
 
@@ -66,9 +67,9 @@ impl Head {
     pub fn in_range(self) -> bool
         ensures { result ≡ head_in_range self }
     {
-        fields::is_within(4, 256, self.sets)
+        fields::is_within(4, CacheSet::MOST_SETS, self.sets)
             & (self.sets % 4 == 0)
-            & fields::is_within(0, 100000, self.brt.0)
+            & fields::is_within(0, Ticks::LONGEST_RELOAD, self.brt.0)
             & fields::is_within(1, Useful::MOST_WAYS, self.form.ways())
     }
 

@@ -1,6 +1,6 @@
 // A task line.
-ghost use Rattle.std.specs.Prelude.{◌≡◌, false, ◌&&◌, MatchOption};
-ghost use Rattle.table.specs.Fields.{has_shape};
+ghost use Rattle.std.specs.Prelude.{◌≡◌, false, ◌&&◌, MatchOption, ◌==◌};
+ghost use Rattle.table.specs.Cut.{field_count};
 ghost use Rattle.table.specs.Rows.{unless_fault};
 ghost use Rattle.table.specs.TaskLine.{AreTaskFields, read_times, times_of, times_in_range, times_in_order, task_rows, task_said, blocking_said};
 
@@ -14,7 +14,7 @@ use cache::units::Ticks;
 use cache::useful;
 use cache::useful::{Form, Useful};
 
-// The fields of a task line, behind the first.
+// The fields of a task line, behind the first, which says of what kind the line is.
 #[derive(Clone, Copy)]
 struct TaskFields<'a> {
     name: &'a [u8],
@@ -28,12 +28,10 @@ struct TaskFields<'a> {
 }
 
 fn cut(line: &[u8]) -> Option<TaskFields<'_>>
-    ensures { MatchOption result (has_shape 84 9 line.now ≡ false) (AreTaskFields line.now) }
+    ensures { MatchOption result ((field_count line.now == 9) ≡ false) (AreTaskFields line.now) }
 {
     let mut fields = Fields::of(line);
-    if fields.next()? != b"T".as_slice() {
-        return None;
-    }
+    fields.next()?;
     let cut = TaskFields {
         name: fields.next()?,
         work: fields.next()?,
@@ -73,10 +71,10 @@ impl Times {
     fn in_range(self) -> bool
         ensures { result ≡ times_in_range self }
     {
-        fields::is_within(1, 250000000, self.work.0)
-            & fields::is_within(1, 250000000, self.period.0)
-            & fields::is_within(1, 250000000, self.deadline.0)
-            & fields::is_within(0, 250000000, self.jitter.0)
+        fields::is_within(1, Ticks::LONGEST, self.work.0)
+            & fields::is_within(1, Ticks::LONGEST, self.period.0)
+            & fields::is_within(1, Ticks::LONGEST, self.deadline.0)
+            & fields::is_within(0, Ticks::LONGEST, self.jitter.0)
     }
 
     #[tactic(auto, unfolding(crate::specs::TaskLine::times_in_order))]
@@ -121,7 +119,7 @@ impl Task {
             Reason::Number,
         )?;
         let blocking = fields::read_number(fields.blocking).ok_or(Reason::Number)?;
-        if !(times.in_range() & fields::is_within(0, 250000000, blocking)) {
+        if !(times.in_range() & fields::is_within(0, Ticks::LONGEST, blocking)) {
             return Err(Reason::Range);
         }
         let ucb = Useful::from_field(fields.ucb, sets, form).ok_or(Reason::Marks)?;

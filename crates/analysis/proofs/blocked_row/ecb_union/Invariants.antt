@@ -4,4 +4,4 @@ use Rattle.analysis.proofs.JoinLaws.{Joined}
 use Rattle.analysis.proofs.blocked_row.ecb_union.Given as goal
 
 abbrev pub invariant-loop-j : goal.invariant-loop-j
-invariant-loop-j l = Joined l.table l.fn.access EcbUnion l.i l.j l.row
+invariant-loop-j l = Joined l.pending.table.now l.fn.access EcbUnion l.pending.i l.j l.row

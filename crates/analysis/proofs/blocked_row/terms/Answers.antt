@@ -11,6 +11,6 @@ loop-j-init c = front-none (term_of 0 0 0) _
 
 pub loop-j-preserved : goal.loop-j-preserved
 loop-j-preserved c =
-    let e = ap (λ (n : ℕ). term_with c.args.table.now c.loop-j.j n) c.count.ensures in
+    let e = ap (λ (n : ℕ). term_with c.args.pending.table.now c.loop-j.j n) c.count.ensures in
     rw c.loop-j.invariant
-    (front-next (term_of 0 0 0) (term_by c.args.table.now c.args.row.now) c.loop-j.j _ (omega (arith, c.requires.0.few)) (c.term.ensures ∙ e))
+    (front-next (term_of 0 0 0) (term_by c.args.pending.table.now c.args.row.now) c.loop-j.j _ (omega (arith, c.args.pending.accepted.few, c.args.pending.held)) (c.term.ensures ∙ e))

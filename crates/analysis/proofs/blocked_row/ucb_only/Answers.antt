@@ -4,4 +4,4 @@ use Rattle.analysis.proofs.JoinLaws.{joined-past}
 use Rattle.analysis.proofs.blocked_row.ucb_only.Goals as goal
 
 pub loop-j-init : goal.loop-j-init
-loop-j-init c = joined-past c.args.access.now.ceiling c.requires.0 (omega arith) c.requires.3
+loop-j-init c = joined-past c.args.access.now.ceiling c.requires.0 (omega arith) c.requires.1

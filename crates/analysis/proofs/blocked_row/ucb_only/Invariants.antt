@@ -4,4 +4,4 @@ use Rattle.analysis.proofs.JoinLaws.{Joined}
 use Rattle.analysis.proofs.blocked_row.ucb_only.Given as goal
 
 abbrev pub invariant-loop-j : goal.invariant-loop-j
-invariant-loop-j l = Joined l.table l.fn.access UcbOnly l.i l.j l.row
+invariant-loop-j l = Joined l.pending.table.now l.fn.access UcbOnly l.pending.i l.j l.row

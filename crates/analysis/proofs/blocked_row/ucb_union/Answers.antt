@@ -18,8 +18,8 @@ use Rattle.analysis.proofs.blocked_row.ucb_union.Goals as goal
 
 pub loop-j-init : goal.loop-j-init
 loop-j-init c = record {
-  charged = charged-none _ c.requires.2;
-  all = heights-none _ 8 ∙ sum-none (ways_in c.args.table.now) (ucb_of c.args.table.now) (c.args.i + 1);
+  charged = charged-none _ c.requires;
+  all = heights-none _ 8 ∙ sum-none (ways_in c.args.pending.table.now) (ucb_of c.args.pending.table.now) (c.args.pending.i + 1);
   ways = c.ways-ways.ensures;
 }
 
@@ -29,18 +29,18 @@ loop-j-preserved c =
     let a = c.args in
     let j = c.loop-j.j - 1 in
     let last : j + 1 ≡ c.loop-j.j = omega arith in
-    let W = ways_in a.table.now in
+    let W = ways_in a.pending.table.now in
     let joined = rw h.ways at c.join.ensures in
-    let all : counts W c.join.new.self ≡ capped W (counts_over (ucb_of a.table.now) (between (j + 1) (a.i + 1))) =
+    let all : counts W c.join.new.self ≡ capped W (counts_over (ucb_of a.pending.table.now) (between (j + 1) (a.pending.i + 1))) =
     joined
-    ∙ sum-front W (ucb_of a.table.now) (j + 1) (a.i + 1) _ _ (omega arith) (ap (λ (t : Task). counts W t.ucb) c.task.ensures) (rw (← last) at h.all) in
+    ∙ sum-front W (ucb_of a.pending.table.now) (j + 1) (a.pending.i + 1) _ _ (omega arith) (ap (λ (t : Task). counts W t.ucb) c.task.ensures) (rw (← last) at h.all) in
     let evictor = ap (λ (t : Task). members t.ecb) c.task-in-loop-j.ensures in
     let shared = rw h.ways at c.shared_with.ensures
     ∙ ap₂ (λ (U : Counts) (E : Set). total (capped W (U ⊕ added_by W a.access.now j) on E)) all evictor
-    ∙ ap (λ (U : Counts). total (U on ecb_of a.table.now j))
-    (capped_left W (counts_over (ucb_of a.table.now) (between (j + 1) (a.i + 1))) (added_by W a.access.now j)) in
+    ∙ ap (λ (U : Counts). total (U on ecb_of a.pending.table.now j))
+    (capped_left W (counts_over (ucb_of a.pending.table.now) (between (j + 1) (a.pending.i + 1))) (added_by W a.access.now j)) in
     record {
-      charged = tells-front a.i c.loop-j.j j (omega (arith, c.requires.0.few)) (omega arith) _ (ap no_victim shared) h.charged;
+      charged = tells-front a.pending.i c.loop-j.j j (omega (arith, c.args.pending.accepted.few, c.args.pending.held)) (omega arith) _ (ap no_victim shared) h.charged;
       all = all;
       ways = h.ways;
     }

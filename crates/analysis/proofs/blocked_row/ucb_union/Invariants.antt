@@ -12,7 +12,7 @@ use Rattle.analysis.proofs.blocked_row.ucb_union.Given as goal
 
 abbrev pub invariant-loop-j : goal.invariant-loop-j
 invariant-loop-j l = record {
-  charged : ChargedUnder l.table l.access UcbUnion l.i l.j l.row;
-  all : counts (ways_in l.table) l.all ≡ capped (ways_in l.table) (counts_over (ucb_of l.table) (between (l.j + 1) (l.i + 1)));
-  ways : l.ways ≡ ways_in l.table;
+  charged : ChargedUnder l.pending.table.now l.access UcbUnion l.pending.i l.j l.row;
+  all : counts (ways_in l.pending.table.now) l.all ≡ capped (ways_in l.pending.table.now) (counts_over (ucb_of l.pending.table.now) (between (l.j + 1) (l.pending.i + 1)));
+  ways : l.ways ≡ ways_in l.pending.table.now;
 }

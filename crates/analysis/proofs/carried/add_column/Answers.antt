@@ -7,6 +7,6 @@ use Rattle.analysis.proofs.carried.add_column.Goals as goal
 pub returns : goal.returns
 returns c =
     let a = c.args in
-    ledger-next a.table.now _ a.i _ (omega (arith, c.requires.0.few)) c.requires.2
-    (column-none a.table.now a.i _ _ _ _ c.ecbs_down_to-above.ensures
+    ledger-next a.pending.table.now _ a.pending.i _ (omega (arith, c.args.pending.accepted.few, c.args.pending.held)) c.requires
+    (column-none a.pending.table.now a.pending.i _ _ _ _ c.ecbs_down_to-above.ensures
     c.cleared-evicting.ensures c.none-nobody.ensures (heights-none _ 8))

@@ -7,18 +7,18 @@ use Rattle.analysis.specs.Costs.{ecb_of}
 use Rattle.analysis.proofs.UnionLaws.{union-none, union-next}
 use Rattle.analysis.proofs.carried.ecbs_down_to.Goals as goal
 
-pub returns-then-i-eq0 : goal.returns-then-i-eq0
-returns-then-i-eq0 c =
+pub returns-then-pending-eq0 : goal.returns-then-pending-eq0
+returns-then-pending-eq0 c =
     let a = c.args in
-    let first : a.i ≡ 0 = omega arith in
-    let E = ecb_of a.table.now in
+    let first : a.pending.i ≡ 0 = omega arith in
+    let E = ecb_of a.pending.table.now in
     sym (union-empty _)
-    ∙ union-next E 0 a.i _ _ (omega arith) (rw first (union-none E 0)) (ap (λ (t : Task). members t.ecb) c.task.ensures)
+    ∙ union-next E 0 a.pending.i _ _ (omega arith) (rw first (union-none E 0)) (ap (λ (t : Task). members t.ecb) c.task.ensures)
 
 pub returns : goal.returns
 returns c =
     let a = c.args in
-    let last : a.i - 1 + 1 ≡ a.i = omega arith in
-    let above = (c.requires.2.past (a.i - 1) (omega arith)).above in
+    let last : a.pending.i - 1 + 1 ≡ a.pending.i = omega arith in
+    let above = (c.requires.past (a.pending.i - 1) (omega arith)).above in
     c.union.ensures
-    ∙ union-next (ecb_of a.table.now) 0 a.i _ _ (omega arith) (rw last at above) (ap (λ (t : Task). members t.ecb) c.task.ensures)
+    ∙ union-next (ecb_of a.pending.table.now) 0 a.pending.i _ _ (omega arith) (rw last at above) (ap (λ (t : Task). members t.ecb) c.task.ensures)

@@ -11,13 +11,13 @@ use Rattle.analysis.proofs.one_row.evictors.Goals as goal
 pub loop-j-init : goal.loop-j-init
 loop-j-init c = record {
   evictors = record { long = refl; each = λ j l. absurd (omega arith) };
-  above = members-empty ∙ union-none (ecb_of c.args.table.now) 0;
+  above = members-empty ∙ union-none (ecb_of c.args.pending.table.now) 0;
 }
 
 pub loop-j-preserved : goal.loop-j-preserved
 loop-j-preserved c =
     let h = c.loop-j.invariant in
-    let few = c.requires.0.few in
+    let few = c.args.pending.accepted.few in let held = c.args.pending.held in
     let above = c.union-above.ensures
-    ∙ union-next (ecb_of c.args.table.now) 0 c.loop-j.j _ _ (omega arith) h.above (ap (λ (t : Task). members t.ecb) c.task.ensures) in
+    ∙ union-next (ecb_of c.args.pending.table.now) 0 c.loop-j.j _ _ (omega arith) h.above (ap (λ (t : Task). members t.ecb) c.task.ensures) in
     record { evictors = evictors-next c.loop-j.j _ (omega arith) h.evictors above; above = above }

@@ -8,4 +8,4 @@ use Rattle.analysis.specs.Row.{Evictors}
 use Rattle.analysis.proofs.one_row.evictors.Given as goal
 
 abbrev pub invariant-loop-j : goal.invariant-loop-j
-invariant-loop-j l = record { evictors : Evictors l.table l.j l.unions; above : members l.above ≡ union_of (ecb_of l.table) (hp l.j) }
+invariant-loop-j l = record { evictors : Evictors l.pending.table.now l.j l.unions; above : members l.above ≡ union_of (ecb_of l.pending.table.now) (hp l.j) }

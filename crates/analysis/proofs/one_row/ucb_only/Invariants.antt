@@ -10,6 +10,6 @@ use Rattle.analysis.proofs.one_row.ucb_only.Given as goal
 
 abbrev pub invariant-loop-j : goal.invariant-loop-j
 invariant-loop-j l = record {
-  charged : Charged l.table UcbOnly l.i l.j l.row;
-  most : l.most ≡ largest_from (l.j + 1) (λ k. total (ucb_of l.table k)) (between (l.j + 1) (l.i + 1));
+  charged : Charged l.pending.table.now UcbOnly l.pending.i l.j l.row;
+  most : l.most ≡ largest_from (l.j + 1) (λ k. total (ucb_of l.pending.table.now k)) (between (l.j + 1) (l.pending.i + 1));
 }

@@ -1,6 +1,6 @@
--- The loop's invariant: `latest` are the answers over the first access that was taken and the first n.
+-- The loop's invariant: going on from here gives the answers.
 use Rattle.analysis.proofs.RowLaws.{Passed}
 use Rattle.analysis.proofs.rows.over_all.Given as goal
 
-abbrev pub invariant-loop-n : goal.invariant-loop-n
-invariant-loop-n l = Passed l.table l.i l.first l.n l.latest
+abbrev pub invariant-loop-access : goal.invariant-loop-access
+invariant-loop-access l = Passed l.pending.table.now l.pending.i l.latest l.access-iterator

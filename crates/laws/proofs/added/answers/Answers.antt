@@ -16,4 +16,4 @@ returns c =
           told-below a.first.now a.second.now a.added a.method a.position _ 18446744073709551615 w.if-position-added.false (omega arith)
           (w.place-is ∙ w.saturating_add-place.ensures)
     ] in
-    with-more a.first.now a.second.now a.added a.method a.position _ c.answer.ensures (c.answer-2.ensures ∙ there)
+    with-more a.first.now a.second.now a.added a.method a.position _ c.answer.ensures.value (c.answer-2.ensures.value ∙ there)

@@ -4,5 +4,5 @@ use Rattle.laws.proofs.dominance.under_all.Goals as goal
 
 pub returns : goal.returns
 returns c =
-    six-in-order c.args.table.now c.requires.0 c.args.i c.requires.1 _ c.respond.ensures c.respond-2.ensures c.respond-3.ensures c.respond-4.ensures c.respond-5.ensures
-    c.respond-6.ensures
+    six-in-order c.args.pending.table.now c.args.pending.accepted c.args.pending.i c.args.pending.held _ c.respond.ensures.value c.respond-2.ensures.value c.respond-3.ensures.value c.respond-4.ensures.value c.respond-5.ensures.value
+    c.respond-6.ensures.value

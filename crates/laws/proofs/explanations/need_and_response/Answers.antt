@@ -4,5 +4,5 @@ use Rattle.laws.proofs.explanations.need_and_response.Goals as goal
 
 pub returns : goal.returns
 returns c =
-    let a = c.args in
-    needed-as-answered a.table.now c.requires.0 a.i c.requires.1 a.method _ c.explained.ensures c.respond.ensures
+    let a = c.args.pending in
+    needed-as-answered a.table.now a.accepted a.i a.held c.args.method _ c.explained.ensures c.respond.ensures.value

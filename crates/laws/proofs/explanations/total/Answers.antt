@@ -7,17 +7,15 @@ use Rattle.laws.proofs.explanations.total.Goals as goal
 
 pub total_of-requires : goal.total_of-requires
 total_of-requires c =
-    let a = c.args in
-    let p = c.requires in (
-      explained-time a.table.now p.0 a.i p.1 a.method _ _ c.explained-need.ensures c.in-Within.is,
-      explained-grounds a.table.now p.0 a.i p.1 a.method _ c.explained-need.ensures,
+    let a = c.args.pending in (
+      explained-time a.table.now a.accepted a.i a.held c.args.method _ _ c.explained-need.ensures c.in-Within.is,
+      explained-grounds a.table.now a.accepted a.i a.held c.args.method _ c.explained-need.ensures,
     )
 
 pub returns : goal.returns
 returns c =
-    let a = c.args in
-    let p = c.requires in
-    adds-up a.table.now p.0 a.i p.1 a.method _ c.explained-need.ensures
+    let a = c.args.pending in
+    adds-up a.table.now a.accepted a.i a.held c.args.method _ c.explained-need.ensures
     (λ R f.
     let same : c.in-Within.time ≡ R = cc in
     c.total_of.ensures ∙ ap (λ (t : Ticks). sum_of a.table.now c.explained-need.result a.i t.0) same)

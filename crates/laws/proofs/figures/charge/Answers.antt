@@ -6,10 +6,10 @@ use Rattle.laws.proofs.FigureLaws.{charge-figured}
 use Rattle.laws.proofs.figures.charge.Goals as goal
 
 pub bounds-row-j : goal.bounds-row-j
-bounds-row-j c = omega (arith, c.requires.0.few)
+bounds-row-j c = omega (arith, c.args.pending.accepted.few)
 
 pub returns : goal.returns
 returns c =
     let a = c.args in
-    let is = c.join.ensures.each a.j zero-le c.requires.2 ∙ charge-past a.table.now empty_access a.method a.i a.j zero-le in
-    record { value = is; figure = charge-figured a.table.now a.method a.i a.j _ is }
+    let is = c.join.ensures.each a.j zero-le c.requires ∙ charge-past a.pending.table.now empty_access a.method a.pending.i a.j zero-le in
+    record { value = is; figure = charge-figured a.pending.table.now a.method a.pending.i a.j _ is }

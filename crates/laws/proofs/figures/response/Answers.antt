@@ -3,4 +3,4 @@ use Rattle.laws.proofs.FigureLaws.{figured}
 use Rattle.laws.proofs.figures.response.Goals as goal
 
 pub returns : goal.returns
-returns c = record { value = c.respond.ensures; figure = figured c.args.table.now c.args.method c.args.i _ c.respond.ensures }
+returns c = record { value = c.respond.ensures.value; figure = figured c.args.pending.table.now c.args.method c.args.pending.i _ c.respond.ensures.value }

@@ -7,6 +7,6 @@ pub returns : goal.returns
 returns c =
     let a = c.args in
     record {
-      value = c.respond.ensures;
-      any = λ arranged. c.respond.ensures ∙ sym (response-any-order a.table.now a.method a.i arranged);
+      value = c.respond.ensures.value;
+      any = λ arranged. c.respond.ensures.value ∙ sym (response-any-order a.pending.table.now a.method a.pending.i arranged);
     }

@@ -4,4 +4,4 @@ use Rattle.laws.proofs.texts.of_two_texts.Goals as goal
 
 pub returns : goal.returns
 returns c =
-    let a = c.args in easier-text-first a.first.now a.second.now a.method a.position _ c.answer.ensures c.answer-2.ensures
+    let a = c.args in easier-text-first a.first.now a.second.now a.method a.position _ c.answer.ensures.value c.answer-2.ensures.value

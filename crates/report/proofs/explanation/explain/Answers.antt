@@ -26,25 +26,25 @@ module _ {table : Table} (accepted : AcceptedTable table) {i : ℕ} (held : i < 
   fits = omega (arith, ap length text_is, length-append {A = ℕ}, explanation-short table accepted i held method)
 
 pub write_need_line-requires-clause-limited : goal.write_need_line-requires-clause-limited
-write_need_line-requires-clause-limited c = rw c.task.ensures (timed c.requires.0 c.args.i c.requires.1).jitter
+write_need_line-requires-clause-limited c = rw c.task.ensures (timed c.args.pending.accepted c.args.pending.i c.args.pending.held).jitter
 
 pub write_need_line-requires-clause-room : goal.write_need_line-requires-clause-room
 write_need_line-requires-clause-room c =
-    omega (arith, ap length c.new-draft.ensures, fits c.requires.0 c.requires.1 c.args.method c.task.ensures c.explained-needed.ensures)
+    omega (arith, ap length c.new-draft.ensures, fits c.args.pending.accepted c.args.pending.held c.args.method c.task.ensures c.explained-needed.ensures)
 
 pub write_reasons-requires-clause-grounds : goal.write_reasons-requires-clause-grounds
 write_reasons-requires-clause-grounds c =
-    let n = of-need c.requires.0 c.requires.1 c.args.method c.task.ensures c.explained-needed.ensures in
-    (n.ranged.time, record { accepted = c.requires.0; held = c.requires.1; blocker = n.blocker })
+    let n = of-need c.args.pending.accepted c.args.pending.held c.args.method c.task.ensures c.explained-needed.ensures in
+    (n.ranged.time, record { accepted = c.args.pending.accepted; held = c.args.pending.held; blocker = n.blocker })
 
 pub write_reasons-requires-clause-room : goal.write_reasons-requires-clause-room
 write_reasons-requires-clause-room c =
-    omega (arith, ap length c.new-draft.ensures, ap length c.write_need_line.ensures, length-append {A = ℕ}, fits c.requires.0 c.requires.1 c.args.method c.task.ensures c.explained-needed.ensures)
+    omega (arith, ap length c.new-draft.ensures, ap length c.write_need_line.ensures, length-append {A = ℕ}, fits c.args.pending.accepted c.args.pending.held c.args.method c.task.ensures c.explained-needed.ensures)
 
 pub returns : goal.returns
 returns c =
-    let text = text_is c.requires.0 c.requires.1 c.args.method c.task.ensures c.explained-needed.ensures in
+    let text = text_is c.args.pending.accepted c.args.pending.held c.args.method c.task.ensures c.explained-needed.ensures in
     record {
       delivered = rw (c.text.ensures, c.write_reasons.ensures, c.write_need_line.ensures, c.new-draft.ensures, text) at c.deliver.ensures;
-      short = explanation-short c.args.table.now c.requires.0 c.args.i c.requires.1 c.args.method;
+      short = explanation-short c.args.pending.table.now c.args.pending.accepted c.args.pending.i c.args.pending.held c.args.method;
     }

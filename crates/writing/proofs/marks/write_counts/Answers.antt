@@ -1,5 +1,5 @@
 -- `marks::write_counts` meets its contract.
-use Rattle.std.proofs.Common.{ℕ, List, ◌≡◌, ◌-◌, ◌+◌, ◌<◌, ◌++◌, [], ◌∷◌, refl, sym, ap, ◌∙◌, arith, length, length-append, append-nil, append_assoc}
+use Rattle.std.proofs.Common.{ℕ, List, ◌≡◌, ◌-◌, ◌+◌, ◌++◌, [], ◌∷◌, refl, sym, ap, ◌∙◌, arith, length, length-append, append-nil, append_assoc}
 use Rattle.cache.specs.Levels.{counts}
 use Rattle.writing.specs.Marks.{count_digits}
 use Rattle.writing.proofs.CountDigits.{counts-long, digit-front, digits-none}

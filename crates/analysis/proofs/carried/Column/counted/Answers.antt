@@ -1,9 +1,7 @@
 -- `carried::Column::counted` meets its contract.
-use Rattle.std.proofs.Common.{◌≡◌, refl}
+use Rattle.std.proofs.Common.{refl}
 use Rattle.cache.specs.Words.{members}
-use Rattle.analysis.specs.declared.costs.Single.{Single}
 use Rattle.analysis.specs.declared.costs.Single.TheVariants.{None, EcbOnly, UcbOnly, UcbUnion, EcbUnion}
-use Rattle.analysis.specs.Carried.{count_told, count_of}
 use Rattle.analysis.proofs.ColumnLaws.{counted-few}
 use Rattle.analysis.proofs.carried.Column.counted.Goals as goal
 

@@ -1,11 +1,9 @@
 -- `carried::Column::counted_with` meets its contract.
-use Rattle.std.proofs.Common.{ℕ, ◌≡◌, refl, ap, ◌∙◌}
+use Rattle.std.proofs.Common.{ℕ, refl, ap, ◌∙◌}
 use Rattle.cache.specs.Words.{members}
 use Rattle.analysis.specs.declared.costs.Hit.{Hit}
-use Rattle.analysis.specs.declared.costs.Single.{Single}
 use Rattle.analysis.specs.declared.costs.Single.TheVariants.{None, EcbOnly, UcbOnly, UcbUnion, EcbUnion}
 use Rattle.analysis.specs.Gather.{hit, larger_of}
-use Rattle.analysis.specs.Carried.{count_told, count_with}
 use Rattle.analysis.proofs.ColumnLaws.{with-few}
 use Rattle.analysis.proofs.carried.Column.counted_with.Goals as goal
 

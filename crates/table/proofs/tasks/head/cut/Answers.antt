@@ -1,4 +1,4 @@
-use Rattle.std.proofs.Common.{ℕ, List, ◌≡◌, true, [], ◌∷◌, inl, inr, arith, ap, length, sym, ◌∙◌, refl}
+use Rattle.std.proofs.Common.{ℕ, List, ◌≡◌, true, [], ◌∷◌, inl, inr, arith, ap, length, sym, ◌∙◌, refl, codes}
 use Rattle.std.proofs.lemmas.Bool.{false≢true, not-true, not-false}
 use Rattle.std.specs.Str.{bytes_eq}
 use Rattle.table.specs.Cut.{fields}
@@ -28,7 +28,7 @@ returns-in_default c =
     ∙ ap (λ (l : Lines). c.in_ok-next.field-0.now ∷ l) (c.in_ok-sets.ensures.steps
     ∙ ap (λ (l : Lines). c.in_ok-sets.sets.now ∷ l) (c.in_ok-brt.ensures.steps
     ∙ ap (λ (l : Lines). c.in_ok-brt.brt.now ∷ l) c.in_default.ensures.steps.0)) in
-    let same : bytes_eq c.in_ok-next.field-0.now (75 ∷ []) ≡ true = rw (← c.as_slice.ensures) (not-false _ (sym c.ne.ensures ∙ c.if-ne.false)) in
+    let same : bytes_eq c.in_ok-next.field-0.now (codes "K") ≡ true = rw (← c.as_slice.ensures) (not-false _ (sym c.ne.ensures ∙ c.if-ne.false)) in
     record { shaped = head-shaped _ _ _ e same (inl refl); sets = rw e; brt = rw e; ways = rw e }
 
 pub returns-then-is_done : goal.returns-then-is_done
@@ -39,7 +39,7 @@ returns-then-is_done c =
     ∙ ap (λ (l : Lines). c.in_ok-sets.sets.now ∷ l) (c.in_ok-brt.ensures.steps
     ∙ ap (λ (l : Lines). c.in_ok-brt.brt.now ∷ l) (c.in-Some.ensures.steps
     ∙ ap (λ (l : Lines). c.in-Some.ways.now ∷ l) (c.is_done.ensures.0 c.if-is_done.true)))) in
-    let same : bytes_eq c.in_ok-next.field-0.now (75 ∷ []) ≡ true = rw (← c.as_slice.ensures) (not-false _ (sym c.ne.ensures ∙ c.if-ne.false)) in
+    let same : bytes_eq c.in_ok-next.field-0.now (codes "K") ≡ true = rw (← c.as_slice.ensures) (not-false _ (sym c.ne.ensures ∙ c.if-ne.false)) in
     record { shaped = head-shaped _ _ _ e same (inr refl); sets = rw e; brt = rw e; ways = rw e }
 
 pub returns-else-is_done : goal.returns-else-is_done
