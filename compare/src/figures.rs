@@ -139,6 +139,61 @@ fn text(spelled: &str) -> Vec<u8> {
     spelled.replace(' ', "\t").replace('|', "\n").into_bytes()
 }
 
+/// The lines that are expected of a report or an explanation, spelled the same way.
+fn lines(spelled: &str) -> String {
+    String::from_utf8_lossy(&text(spelled)).into_owned()
+}
+
+/// What is expected of each of these tables, which are spelled.
+fn of_tables(rows: Vec<(&'static str, &str, Expected)>) -> Vec<Figure> {
+    let figures = rows.into_iter().map(|(name, table, expected)| Figure {
+        name,
+        text: text(table),
+        expected,
+    });
+    figures.collect()
+}
+
+/// The same of tables and their reports.
+fn reported(rows: Vec<(&'static str, &str, &str)>) -> Vec<Figure> {
+    let rows = rows.into_iter().map(|(name, table, report)| {
+        let expected = Expected::Report(lines(report));
+        (name, table, expected)
+    });
+    of_tables(rows.collect())
+}
+
+/// Of tables, with a method and a position, and their explanations.
+fn explained(rows: Vec<(&'static str, &str, u64, u64, &str)>) -> Vec<Figure> {
+    let rows = rows
+        .into_iter()
+        .map(|(name, table, method, position, explanation)| {
+            let expected = Expected::Explanation(method, position, lines(explanation));
+            (name, table, expected)
+        });
+    of_tables(rows.collect())
+}
+
+/// A text that comes back, of so many bytes.
+fn comes_back(name: &'static str, text: Vec<u8>, length: usize) -> Figure {
+    let expected = Expected::ComesBack(length);
+    Figure {
+        name,
+        text,
+        expected,
+    }
+}
+
+/// A text that is refused, by number and line.
+fn refused(name: &'static str, text: Vec<u8>, number: u64, line: u64) -> Figure {
+    let expected = Expected::Refused(Refusal::new(number, line));
+    Figure {
+        name,
+        text,
+        expected,
+    }
+}
+
 pub fn table_m() -> Vec<u8> {
     text(M)
 }
@@ -246,26 +301,15 @@ fn responses() -> Vec<Figure> {
         ("P, J 1, D of b = 7", &p_both_jitter, NoResponse(0, 1)),
         ("P, J of b = 8", &p_no_limit, NoResponse(0, 1)),
     ];
-    let figures = rows.into_iter().map(|(name, spelled, expected)| Figure {
-        name,
-        text: text(spelled),
-        expected,
-    });
-    figures.collect()
+    of_tables(rows)
 }
 
 fn reports() -> Vec<Figure> {
-    let rows = [
+    let mut figures = reported(vec![
         ("A, whole report", A, A_REPORT),
         ("P, whole report", P, P_REPORT),
         ("P, its tasks changed round", P_TURNED, P_TURNED_REPORT),
-    ];
-    let reported = |(name, table, report)| Figure {
-        name,
-        text: text(table),
-        expected: Expected::Report(String::from_utf8_lossy(&text(report)).into_owned()),
-    };
-    let mut figures: Vec<Figure> = rows.into_iter().map(reported).collect();
+    ]);
     figures.push(Figure {
         name: "the longest report",
         text: longest_report(),
@@ -286,15 +330,7 @@ fn explanations() -> Vec<Figure> {
         ("P, b needs 7, has 6", &p_needs_7, 0, 1, P_NEEDS_7),
         ("P, nothing left for b", &p_full, 5, 1, P_FULL),
     ];
-    let explained = |(name, table, method, position, explanation)| {
-        let lines = String::from_utf8_lossy(&text(explanation)).into_owned();
-        Figure {
-            name,
-            text: text(table),
-            expected: Expected::Explanation(method, position, lines),
-        }
-    };
-    let mut figures: Vec<Figure> = rows.into_iter().map(explained).collect();
+    let mut figures = explained(rows);
     figures.push(Figure {
         name: "the longest explanation in hex",
         text: longest_explanation(),
@@ -304,11 +340,6 @@ fn explanations() -> Vec<Figure> {
 }
 
 fn tables() -> Vec<Figure> {
-    let comes_back = |name, text, length| Figure {
-        name,
-        text,
-        expected: Expected::ComesBack(length),
-    };
     vec![
         comes_back("A comes back", text(A), 66),
         comes_back("B comes back", text(B), 66),
@@ -324,11 +355,6 @@ fn tables() -> Vec<Figure> {
 }
 
 fn refusals() -> Vec<Figure> {
-    let refused = |name, text, number, line| Figure {
-        name,
-        text,
-        expected: Expected::Refused(Refusal::new(number, line)),
-    };
     let changed = |from: &str, to: &str| text(&A.replace(from, to));
     let b_blocked = |times: &str| text(&P.replace("8 8 0 0", times));
     let both_blocked = P.replace("0 0 0 0", "0 1 0 0");

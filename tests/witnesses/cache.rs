@@ -75,6 +75,12 @@ fn answer(name: &str, args: &mut Args) -> String {
             useful.0.join(&other.0, useful.1);
             show(useful.0)
         }
+        "join_words" => {
+            let (own, other) = (Useful::from_words(&args.list()), Useful::from_words(&args.list()));
+            let (mut joined, ways) = (own, args.number());
+            joined.join(&other, ways);
+            show(joined.count(args.number(), ways))
+        }
         "count" => {
             let (useful, ways) = useful(args);
             show(useful.count(args.number(), ways))

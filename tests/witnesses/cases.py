@@ -472,7 +472,7 @@ def of_laws():
         said = text(it)
         for i in range(n):
             for m in METHODS:
-                found += ["%s %s %d %d" % (call, said, m, i) for call in ("total", "need_and_response", "figure_response", "in_any_order")]
+                found += ["%s %s %d %d" % (call, said, m, i) for call in ("need_and_response", "figure_response", "in_any_order")]
                 other, n2 = every[(k + 1) % len(every)]
                 found.append("in_two_tables %s %d %s %d %d" % (said, i, text(other), min(i, n2 - 1), m))
                 found.append("in_two_tables %s %d %s %d %d" % (said, i, said, (i + 1) % n, m))

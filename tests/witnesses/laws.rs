@@ -117,11 +117,6 @@ fn answer(name: &str, args: &mut Args) -> String {
             let reports = any_worker::reported_twice(&text, &mut own, &mut others);
             format!("{} {}", filled(reports, &own), common::text(&others))
         }
-        "total" => {
-            let table = tables::read(args);
-            let method = method(args);
-            show(explanations::total(pending(&table, args.size()), method))
-        }
         "need_and_response" => {
             let table = tables::read(args);
             let method = method(args);

@@ -139,16 +139,9 @@ type Work<'a> = &'a mut dyn FnMut(&[u8]) -> u64;
 
 fn time_tables(title: &str, texts: &[Vec<u8>], options: &Options) {
     println!("{title} ({} tables)", texts.len());
-    texts.iter().for_each(|text| see_same(text));
+    let reports = time_reports("reports", texts, options);
     let explained = explained_of(&texts[0]);
     let (mut out, mut plain_out) = (ROOM, ROOM);
-    let reports = time_both(
-        "reports",
-        texts,
-        options,
-        &mut |text| library::report(text, &mut out),
-        &mut |text| plain::report(text, &mut plain_out),
-    );
     time_both(
         "single answers",
         texts,
@@ -183,6 +176,19 @@ fn time_tables(title: &str, texts: &[Vec<u8>], options: &Options) {
     time_parts(texts, options);
 }
 
+/// The reports of these tables, which are the same by both.
+fn time_reports(what: &str, texts: &[Vec<u8>], options: &Options) -> Rates {
+    texts.iter().for_each(|text| see_same(text));
+    let (mut out, mut plain_out) = (ROOM, ROOM);
+    time_both(
+        what,
+        texts,
+        options,
+        &mut |text| library::report(text, &mut out),
+        &mut |text| plain::report(text, &mut plain_out),
+    )
+}
+
 /// How the time of a report grows with the accesses, and for 32 of them all that is timed of other
 /// tables.
 fn time_accesses(options: &Options) {
@@ -192,15 +198,7 @@ fn time_accesses(options: &Options) {
     );
     for accesses in [0, 1, 4, 16, 32] {
         let texts = with_accesses(32, 500.0, options.tables, accesses);
-        texts.iter().for_each(|text| see_same(text));
-        let (mut out, mut plain_out) = (ROOM, ROOM);
-        time_both(
-            &format!("reports, {accesses}"),
-            &texts,
-            options,
-            &mut |text| library::report(text, &mut out),
-            &mut |text| plain::report(text, &mut plain_out),
-        );
+        time_reports(&format!("reports, {accesses}"), &texts, options);
     }
     let most = with_accesses(32, 500.0, options.tables, 32);
     time_tables("32 tasks, 256 sets, 32 accesses", &most, options);
@@ -211,15 +209,7 @@ fn time_ways(options: &Options) {
     println!("32 tasks, 256 sets, with ways ({} tables)", options.tables);
     for ways in [1, 2, 4, 8] {
         let texts = with_ways(options.tables, 0, ways);
-        texts.iter().for_each(|text| see_same(text));
-        let (mut out, mut plain_out) = (ROOM, ROOM);
-        time_both(
-            &format!("reports, {ways}"),
-            &texts,
-            options,
-            &mut |text| library::report(text, &mut out),
-            &mut |text| plain::report(text, &mut plain_out),
-        );
+        time_reports(&format!("reports, {ways}"), &texts, options);
     }
     let most = with_ways(options.tables, 0, 8);
     time_tables("32 tasks, 256 sets, 8 ways", &most, options);

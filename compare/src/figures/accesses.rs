@@ -1,7 +1,6 @@
 //! The worked figures of tables with accesses.
 
-use super::{text, Expected, Figure, A};
-use crate::model::Refusal;
+use super::{explained, of_tables, refused, reported, text, Expected, Figure, A, A_REPORT};
 
 /// Figure 5 of the paper: b and c share a device, and a pre-empts c while it blocks b.
 const S: &str = "K 4 1|T a 1 20 20 0 0 0 3|T b 2 40 40 0 0 0 0|T c 3 60 60 0 0 3 3|A c b 2 3|";
@@ -13,8 +12,6 @@ const S_REPORT: &str = "R a 20 1 1 1 1 1 1|R b 40 5 7 7 7 7 7|R c 60 6 8 10 8 10
 /// An access without useful sets costs its length alone.
 const A_BLOCKED: &str = "R a 20 1 1 1 1 1 1|R b 40 6 10 8 8 8 8|R c 60 5 13 9 11 9 9|\
                          V yes yes yes yes yes yes|";
-
-const A_REPORT: &str = super::A_REPORT;
 
 /// The second access is shorter and has more to reload.
 const Q: &str = "K 4 1|T a 1 20 20 0 0 0 f|T b 2 40 40 0 0 0 0|T c 2 60 60 0 0 0 0|";
@@ -56,12 +53,7 @@ fn reports() -> Vec<Figure> {
         ("A, an access without marks", &empty, A_BLOCKED),
         ("A, the tasks as ceilings", &own_ceilings, A_REPORT),
     ];
-    let figures = rows.into_iter().map(|(name, table, report)| Figure {
-        name,
-        text: text(table),
-        expected: Expected::Report(String::from_utf8_lossy(&text(report)).into_owned()),
-    });
-    figures.collect()
+    reported(rows)
 }
 
 fn responses() -> Vec<Figure> {
@@ -105,12 +97,7 @@ fn responses() -> Vec<Figure> {
         ("D, D of c = 17", &d_17, Response(5, 2, 17)),
         ("D, D of c = 16", &d_16, NoResponse(5, 2)),
     ];
-    let figures = rows.into_iter().map(|(name, spelled, expected)| Figure {
-        name,
-        text: text(spelled),
-        expected,
-    });
-    figures.collect()
+    of_tables(rows)
 }
 
 fn explanations() -> Vec<Figure> {
@@ -170,25 +157,10 @@ fn explanations() -> Vec<Figure> {
             "X c 2 18 300 3 8|I a 1 2 c|I b 1 2 c|",
         ),
     ];
-    let figures = rows
-        .into_iter()
-        .map(|(name, table, method, position, lines)| {
-            let lines = String::from_utf8_lossy(&text(lines)).into_owned();
-            Figure {
-                name,
-                text: text(table),
-                expected: Expected::Explanation(method, position, lines),
-            }
-        });
-    figures.collect()
+    explained(rows)
 }
 
 fn refusals() -> Vec<Figure> {
-    let refused = |name, text, number, line| Figure {
-        name,
-        text,
-        expected: Expected::Refused(Refusal::new(number, line)),
-    };
     let a_with = |accesses: &str| text(&with(A, &[accesses]));
     let access = "A c b 1 0|";
     let a_blocked = A.replace("40 40 0 0", "40 40 0 1");
@@ -237,7 +209,7 @@ fn refusals() -> Vec<Figure> {
 #[cfg(test)]
 mod tests {
     use super::*;
-    use crate::model::{Error, Outcome};
+    use crate::model::{Error, Outcome, Refusal};
 
     fn outcome(table: &str, error: Error) -> Outcome {
         Outcome::of(&text(table), Some(error))

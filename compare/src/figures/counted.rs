@@ -1,7 +1,8 @@
 //! The worked figures of tables with counts.
 
-use super::{text, Expected, Figure, A_REPORT};
-use crate::model::Refusal;
+use super::{
+    comes_back, explained, of_tables, refused, reported, text, Expected, Figure, A_REPORT,
+};
 
 /// The tables A, B and M with a digit for each set and one way.
 const A: &str = "K 4 1 1|T a 1 20 20 0 0 0000 f|T b 2 40 40 0 0 0011 f|T c 2 60 60 0 0 1100 f|";
@@ -51,12 +52,7 @@ fn reports() -> Vec<Figure> {
         ("W, two ways", W, W_REPORT),
         ("W, three ways", &w_3, W_3_REPORT),
     ];
-    let figures = rows.into_iter().map(|(name, table, report)| Figure {
-        name,
-        text: text(table),
-        expected: Expected::Report(String::from_utf8_lossy(&text(report)).into_owned()),
-    });
-    figures.collect()
+    reported(rows)
 }
 
 fn responses() -> Vec<Figure> {
@@ -78,12 +74,7 @@ fn responses() -> Vec<Figure> {
         ("S, b, capped with the access", S, Response(3, 1, 8)),
         ("the last digit is set 0", LOWEST, Response(3, 1, 5)),
     ];
-    let figures = rows.into_iter().map(|(name, spelled, expected)| Figure {
-        name,
-        text: text(spelled),
-        expected,
-    });
-    figures.collect()
+    of_tables(rows)
 }
 
 fn explanations() -> Vec<Figure> {
@@ -113,15 +104,7 @@ fn explanations() -> Vec<Figure> {
         ),
         ("W, equals", W, 4, 2, "X c 4 11 60 2 0|I a 1 3 b|I b 1 3 c|"),
     ];
-    let explained = |(name, table, method, position, explanation)| {
-        let lines = String::from_utf8_lossy(&text(explanation)).into_owned();
-        Figure {
-            name,
-            text: text(table),
-            expected: Expected::Explanation(method, position, lines),
-        }
-    };
-    let mut figures: Vec<Figure> = rows.into_iter().map(explained).collect();
+    let mut figures = explained(rows);
     figures.push(Figure {
         name: "the longest explanation",
         text: longest_explanation(),
@@ -142,11 +125,6 @@ pub fn longest_explanation() -> Vec<u8> {
 }
 
 fn tables() -> Vec<Figure> {
-    let comes_back = |name, text, length| Figure {
-        name,
-        text,
-        expected: Expected::ComesBack(length),
-    };
     vec![
         comes_back("A with counts comes back", text(A), 77),
         comes_back("M with counts comes back", text(M), 92),
@@ -219,11 +197,6 @@ fn growths() -> Vec<Figure> {
 }
 
 fn refusals() -> Vec<Figure> {
-    let refused = |name, text, number, line| Figure {
-        name,
-        text,
-        expected: Expected::Refused(Refusal::new(number, line)),
-    };
     let first = |fields: &str| text(&W.replace("K 4 1 2", fields));
     let of_b = |counts: &str| text(&W.replace("0012", counts));
     let of_access = |access: &str| text(&[W, access].concat());
@@ -254,7 +227,7 @@ fn refusals() -> Vec<Figure> {
 #[cfg(test)]
 mod tests {
     use super::*;
-    use crate::model::{Error, Outcome};
+    use crate::model::{Error, Outcome, Refusal};
 
     #[test]
     fn the_errors_of_answers_do_what_they_say() {

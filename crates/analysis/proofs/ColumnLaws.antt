@@ -19,10 +19,10 @@ use Rattle.analysis.specs.declared.costs.Hit.{Hit}
 use Rattle.analysis.specs.declared.costs.Single.{Single}
 use Rattle.analysis.specs.declared.costs.Single.TheVariants.{None, EcbOnly, UcbOnly, UcbUnion, EcbUnion}
 use Rattle.analysis.specs.Gather.{union_of, hit, larger_of}
-use Rattle.analysis.specs.Costs.{reloads_of, reloads_with, ucb_of, ecb_of, term_with, term_at, term_under}
+use Rattle.analysis.specs.Costs.{reloads_in, reloads_with, ucb_of, ecb_of, charge_at, term_with, term_at, term_under}
 use Rattle.analysis.proofs.SumLaws.{sum-none, sum-next}
 use Rattle.analysis.proofs.HitLaws.{larger-most, hit-none, hit-next, largest-from}
-use Rattle.analysis.proofs.CostLaws.{hit-most, counts-few}
+use Rattle.analysis.proofs.CostLaws.{hit-most, counts-few, largest-ucb, largest-share, all-shared}
 use Rattle.analysis.specs.declared.carried.Column.{Column}
 use Rattle.analysis.specs.declared.carried.Counted.{Counted}
 use Rattle.analysis.specs.Carried.{Next, ColumnOf, Small, FewReloadsCounted, count_told, count_of, count_with, no_column, column_in, Ledger, LedgerInRow}
@@ -56,17 +56,19 @@ module _ (table : Table) (j : ℕ) where
 
     module _ (c : Column) (p : ColumnOf table j (i + 1) c) where
       -- the counts of a row below it
-      column-count : (m : Single) → count_of (ways_in table) (ecb_of table j) c m ≡ reloads_of (ways_in table) (ucb_of table) (ecb_of table) m i j
-      unfolding reloads_of
+      column-count : (m : Single) → count_of (ways_in table) (ecb_of table j) c m ≡ reloads_in (charge_at table m i j)
       column-count None = refl
       column-count EcbOnly = p.evicting
-      column-count UcbOnly = ap (λ (h : Hit). h.reloads.0) (p.most ∙ largest-from (λ k. total (ucb_of table k)) (j + 1) (i + 1) (omega arith))
-      column-count UcbUnion = ap (λ (U : Counts). total (U on ecb_of table j)) p.all
+      column-count UcbOnly =
+          ap (λ (h : Hit). h.reloads.0) (p.most ∙ largest-from (λ k. total (ucb_of table k)) (j + 1) (i + 1) (omega arith)) ∙ sym (ap reloads_in (largest-ucb table i j))
+      column-count UcbUnion = ap (λ (U : Counts). total (U on ecb_of table j)) p.all ∙ sym (ap reloads_in (all-shared table i j))
       column-count EcbUnion =
           ap (λ (h : Hit). h.reloads.0)
           (p.shared ∙ largest-from (λ k. total (ucb_of table k on union_of (ecb_of table) (hp (j + 1)))) (j + 1) (i + 1) (omega arith))
+          ∙ sym (ap reloads_in (largest-share table i j))
 
       pub column-term : (m : Single) → term_with table j (count_of (ways_in table) (ecb_of table j) c m) ≡ term_at table m i j
+      unfolding reloads_with
       column-term m = ap (term_with table j) (column-count m)
 
       -- and while an access blocks

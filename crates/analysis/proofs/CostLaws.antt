@@ -1,16 +1,16 @@
 -- Facts about reload counts.
-use Rattle.std.proofs.Common.{ℕ, ◌+◌, ◌≤◌, max, zero-le, mul-le-mul, arith, ◌≡◌, refl, ap, ◌∙◌, Bool, true, false, cond, ltb, List}
+use Rattle.std.proofs.Common.{ℕ, ◌+◌, ◌≤◌, max, zero-le, mul-le-mul, arith, ◌≡◌, refl, sym, ap, ◌∙◌, Bool, true, false, cond, ltb, List}
 use Rattle.cache.specs.Sets.{Set}
 use Rattle.cache.proofs.SetLaws.{size-le}
 use Rattle.cache.specs.declared.useful.Useful.{Useful}
-use Rattle.cache.specs.Counts.{Counts, nothing, ◌⊕◌, capped, ◌on◌, total}
+use Rattle.cache.specs.Counts.{Counts, nothing, capped, ◌on◌, total}
 use Rattle.cache.specs.Levels.{counts}
 use Rattle.cache.proofs.CountLaws.{add_comm, nothing-add, total-nothing, total-on-le, total-most, capped_le}
 use Rattle.cache.proofs.LevelLaws.{heights-le}
 use Rattle.search.specs.Positions.{hp}
 use Rattle.search.proofs.PositionLaws.{fold-keeps}
 use Rattle.table.specs.declared.accesses.Access.{Access}
-use Rattle.table.specs.Accesses.{added_by}
+use Rattle.table.specs.Accesses.{added_by, empty_access}
 use Rattle.table.proofs.AddedLaws.{added_none}
 use Rattle.table.specs.declared.Table.{Table}
 use Rattle.table.specs.Tables.{ways_in, at}
@@ -18,8 +18,8 @@ use Rattle.table.specs.Accepted.{AcceptedTable}
 use Rattle.analysis.specs.declared.costs.Single.{Single}
 use Rattle.analysis.specs.declared.costs.Single.TheVariants.{None, EcbOnly, UcbOnly, UcbUnion, EcbUnion}
 use Rattle.analysis.specs.declared.costs.Charge.TheVariants.{Victim}
-use Rattle.analysis.specs.Gather.{aff, union_of, counts_over, hit, largest_from, largest_at}
-use Rattle.analysis.specs.Costs.{no_victim, charge_of, reloads_in, reloads_of, charge_with, reloads_with, ucb_of, ecb_of, charge_at, charge_under}
+use Rattle.analysis.specs.Gather.{aff, union_of, counts_over, hit, larger_of, largest_from, largest_at}
+use Rattle.analysis.specs.Costs.{no_victim, charge_with, reloads_with, ucb_of, ecb_of, charge_at, charge_under}
 use Rattle.analysis.proofs.HitLaws.{larger-first, larger-most, largest-count}
 
 -- no largest value is above what each value is not above
@@ -27,23 +27,27 @@ pub hit-most : (p : ℕ) (F : ℕ → ℕ) (ks : List ℕ) {most : ℕ} → ((k 
 hit-most p F ks {most} h = rw (largest-count p F ks) (fold-keeps max (λ b. b ≤ most) 0 F ks (omega arith) (λ b k q. omega (arith, h k)))
 
 -- with nothing one member more changes nothing
-module _ (ways : ℕ) (U : ℕ → Counts) (E : ℕ → Set) (n i j : ℕ) where
-  add-nothing : (S : Counts) → (S ⊕ nothing) ≡ S
-  add-nothing S = add_comm S nothing ∙ nothing-add S
+module _ (ways : ℕ) (U : ℕ → Counts) (E : ℕ → Set) (i j : ℕ) where
+  -- the largest value is that of the others
+  not-hit : (F : ℕ → ℕ) (x n : ℕ) → x ≤ 0 → Victim (larger_of (largest_at F (aff i j)) (hit x n)) ≡ Victim (largest_at F (aff i j))
+  not-hit F x n none = ap Victim (larger-first (largest_at F (aff i j)) (hit x n) (omega arith))
 
-  pub with_none : (m : Single) → charge_with ways U E nothing n m i j ≡ charge_of ways U E m i j
-  with_none None = refl
-  with_none EcbOnly = refl
-  with_none UcbOnly = ap Victim (larger-first (largest_at (λ k. total (U k)) (aff i j)) (hit (total nothing) n) (omega (arith, total-nothing)))
-  with_none UcbUnion = ap (λ (S : Counts). no_victim (total (capped ways S on E j))) (add-nothing (counts_over U (aff i j)))
-  with_none EcbUnion =
-      ap Victim
-      (larger-first (largest_at (λ k. total (U k on union_of E (hp (j + 1)))) (aff i j)) (hit (total (nothing on union_of E (hp (j + 1)))) n)
-      (omega (arith, total-nothing, total-on-le nothing (union_of E (hp (j + 1))))))
+  pub ucb-only-alone : (n : ℕ) → charge_with ways U E nothing n UcbOnly i j ≡ Victim (largest_at (λ k. total (U k)) (aff i j))
+  ucb-only-alone n = not-hit _ _ n (omega (arith, total-nothing))
 
-  pub reloads-none : (m : Single) → reloads_with ways U E nothing n m i j ≡ reloads_of ways U E m i j
-  unfolding reloads_with reloads_of
-  reloads-none m = ap reloads_in (with_none m)
+  pub ucb-union-alone : (n : ℕ) → charge_with ways U E nothing n UcbUnion i j ≡ no_victim (total (capped ways (counts_over U (aff i j)) on E j))
+  ucb-union-alone n = ap (λ (S : Counts). no_victim (total (capped ways S on E j))) (add_comm _ nothing ∙ nothing-add _)
+
+  pub ecb-union-alone : (n : ℕ) → charge_with ways U E nothing n EcbUnion i j ≡ Victim (largest_at (λ k. total (U k on union_of E (hp (j + 1)))) (aff i j))
+  ecb-union-alone n = not-hit _ _ n (omega (arith, total-nothing, total-on-le nothing (union_of E (hp (j + 1)))))
+
+  -- so it does not matter whose it is
+  pub nobodys : (n k : ℕ) (m : Single) → charge_with ways U E nothing n m i j ≡ charge_with ways U E nothing k m i j
+  nobodys n k None = refl
+  nobodys n k EcbOnly = refl
+  nobodys n k UcbOnly = ucb-only-alone n ∙ sym (ucb-only-alone k)
+  nobodys n k UcbUnion = refl
+  nobodys n k EcbUnion = ecb-union-alone n ∙ sym (ecb-union-alone k)
 
 -- no reload count is above what all cache sets can hold
 module _ (ways : ℕ) (U : ℕ → Counts) (E : ℕ → Set) (i j : ℕ) (few : ways ≤ 8) (u : (k s : ℕ) → U k s ≤ ways) where
@@ -79,8 +83,23 @@ under-most table a m i j p =
     with-most (ways_in table) (ucb_of table) (ecb_of table) i j p.ways.1 (λ k s. counts-few (ways_in table) (at table k).ucb s)
     (added_by (ways_in table) a j) (added-few (ways_in table) a j) a.task m
 
--- at the ceiling of an access and below it nothing is added
-pub charge-past : (table : Table) (a : Access) (m : Single) (i j : ℕ) → a.ceiling ≤ j → charge_under table a m i j ≡ charge_at table m i j
-charge-past table a m i j past =
-    ap (λ (X : Counts). charge_with (ways_in table) (ucb_of table) (ecb_of table) X a.task m i j) (added_none (ways_in table) a j past)
-    ∙ with_none (ways_in table) (ucb_of table) (ecb_of table) a.task i j m
+-- at the ceiling of an access and below it nothing is added, and nothing is added by none
+module _ (table : Table) where
+  past-ceiling : (a : Access) (m : Single) (i j : ℕ) → a.ceiling ≤ j → charge_under table a m i j ≡ charge_with (ways_in table) (ucb_of table) (ecb_of table) nothing a.task m i j
+  past-ceiling a m i j past = ap (λ (X : Counts). charge_with (ways_in table) (ucb_of table) (ecb_of table) X a.task m i j) (added_none (ways_in table) a j past)
+
+  pub alone : (m : Single) (i j : ℕ) → charge_at table m i j ≡ charge_with (ways_in table) (ucb_of table) (ecb_of table) nothing 0 m i j
+  alone m i j = past-ceiling empty_access m i j zero-le
+
+  pub charge-past : (a : Access) (m : Single) (i j : ℕ) → a.ceiling ≤ j → charge_under table a m i j ≡ charge_at table m i j
+  charge-past a m i j past = past-ceiling a m i j past ∙ nobodys (ways_in table) (ucb_of table) (ecb_of table) i j a.task 0 m ∙ sym (alone m i j)
+
+  -- the largest values over the tasks alone
+  pub largest-ucb : (i j : ℕ) → charge_at table UcbOnly i j ≡ Victim (largest_at (λ k. total (ucb_of table k)) (aff i j))
+  largest-ucb i j = alone UcbOnly i j ∙ ucb-only-alone (ways_in table) (ucb_of table) (ecb_of table) i j 0
+
+  pub largest-share : (i j : ℕ) → charge_at table EcbUnion i j ≡ Victim (largest_at (λ k. total (ucb_of table k on union_of (ecb_of table) (hp (j + 1)))) (aff i j))
+  largest-share i j = alone EcbUnion i j ∙ ecb-union-alone (ways_in table) (ucb_of table) (ecb_of table) i j 0
+
+  pub all-shared : (i j : ℕ) → charge_at table UcbUnion i j ≡ no_victim (total (capped (ways_in table) (counts_over (ucb_of table) (aff i j)) on ecb_of table j))
+  all-shared i j = alone UcbUnion i j ∙ ucb-union-alone (ways_in table) (ucb_of table) (ecb_of table) i j 0

@@ -1,5 +1,5 @@
 -- ECB-Union, carried up a row: going up the ECBs get fewer, so what bounded the shares still does.
-use Rattle.std.proofs.Common.{ℕ, ◌+◌, ◌≤◌, ◌<◌, le_refl, arith, ◌≡◌, refl, ap, List, length, get_or, replicate, set, length-set, get_or-set_same, get_or-set_other}
+use Rattle.std.proofs.Common.{ℕ, ◌+◌, ◌≤◌, ◌<◌, le_refl, arith, ◌≡◌, refl, sym, ap, ◌∙◌, List, length, get_or, replicate, set, length-set, get_or-set_same, get_or-set_other}
 use Rattle.std.proofs.Math.Decide.{dec_lt}
 use Rattle.std.proofs.lemmas.List.{get_or-replicate}
 use Rattle.cache.specs.declared.units.Reloads.{Reloads}
@@ -10,7 +10,7 @@ use Rattle.search.specs.Positions.{hp}
 use Rattle.table.specs.declared.Table.{Table}
 use Rattle.table.specs.Tables.{ways_in, at}
 use Rattle.table.specs.Accepted.{AcceptedTable}
-use Rattle.analysis.proofs.CostLaws.{counts-few}
+use Rattle.analysis.proofs.CostLaws.{counts-few, largest-share}
 use Rattle.analysis.specs.declared.costs.Hit.{Hit}
 use Rattle.analysis.specs.declared.costs.Single.TheVariants.{EcbUnion}
 use Rattle.analysis.specs.declared.costs.Charge.{Charge}
@@ -68,7 +68,7 @@ module _ {table : Table} (i : ℕ) (few : i < 32) where
     pub evicted-next : {after : List Reloads} (shared : Hit) → shared ≡ largest_at (shared_of table ecbs) (aff i j)
         → AtMost (shared_of table ecbs) after → Evicted table i j (set row j (Victim shared)) after
     evicted-next shared found bounds = record {
-      charged = tells-front i (j + 1) j (omega arith) refl (Victim shared) (ap Victim (rw down at found)) p.charged;
+      charged = tells-front i (j + 1) j (omega arith) refl (Victim shared) (ap Victim (rw down at found) ∙ sym (largest-share table i j)) p.charged;
       bounded = bound-less (rw down at bounds) (shared_of table (union_of (ecb_of table) (hp j)))
           (λ k. total_mono _ _ (on-mono _ _ _ _ (λ s. le_refl _) (union_more (ecb_of table) 0 j (omega arith))));
     }

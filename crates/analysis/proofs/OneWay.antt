@@ -13,8 +13,9 @@ use Rattle.analysis.specs.declared.costs.Single.{Single}
 use Rattle.analysis.specs.declared.costs.Single.TheVariants.{None, EcbOnly, UcbOnly, UcbUnion, EcbUnion}
 use Rattle.analysis.specs.declared.costs.Charge.TheVariants.{Victim}
 use Rattle.analysis.specs.Gather.{aff, union_of, counts_over, hit, larger_of, largest_at}
-use Rattle.analysis.specs.Costs.{no_victim, charge_of, charge_with, ecb_of, charge_at}
-use Rattle.analysis.specs.OneWay.{plain_charge, plain_charge_with, marks_of}
+use Rattle.analysis.specs.Costs.{no_victim, charge_with, ecb_of, charge_at}
+use Rattle.analysis.proofs.CostLaws.{alone}
+use Rattle.analysis.specs.OneWay.{plain_charge_with, marks_of}
 
 -- sets of a sum that is capped at 1: from any start
 gathered-sets : (U : ℕ → Set) (A : Set) (S : Counts) (ks : List ℕ) → capped 1 S ≡ of_set A
@@ -39,13 +40,6 @@ module _ (U E : ℕ → Set) (i j : ℕ) where
   shares : ◌≡◌ {A = ℕ → ℕ} (λ k. total (of_set (U k) on union_of E (hp (j + 1)))) (λ k. size (U k ∩ union_of E (hp (j + 1))))
   shares = fun_ext (λ k. one-way-shared (U k) (union_of E (hp (j + 1))))
 
-  pub one-way : (m : Single) → charge_of 1 (λ k. of_set (U k)) E m i j ≡ plain_charge U E m i j
-  one-way None = refl
-  one-way EcbOnly = ap no_victim (omega arith)
-  one-way UcbOnly = ap (λ (F : ℕ → ℕ). Victim (largest_at F (aff i j))) sizes
-  one-way UcbUnion = ap (λ (S : Counts). no_victim (total (S on E j))) summed ∙ ap no_victim (one-way-shared (union_of U (aff i j)) (E j))
-  one-way EcbUnion = ap (λ (F : ℕ → ℕ). Victim (largest_at F (aff i j))) shares
-
   pub one-way-with : (X : Set) (n : ℕ) (m : Single) → charge_with 1 (λ k. of_set (U k)) E (of_set X) n m i j ≡ plain_charge_with U E X n m i j
   one-way-with X n None = refl
   one-way-with X n EcbOnly = ap no_victim (omega arith)
@@ -59,9 +53,14 @@ module _ (U E : ℕ → Set) (i j : ℕ) where
   one-way-with X n EcbUnion =
       ap₂ (λ (F : ℕ → ℕ) (x : ℕ). Victim (larger_of (largest_at F (aff i j)) (hit x n))) shares (one-way-shared X (union_of E (hp (j + 1))))
 
+none-marked : nothing ≡ of_set ∅
+unfolding nothing of_set ∅
+none-marked = refl
+
 -- so a table with 1 way, of the old form or not, is charged by the marks of its tasks
-pub one-way-table : (table : Table) (m : Single) (i j : ℕ) → ways_in table ≡ 1 → charge_at table m i j ≡ plain_charge (marks_of table) (ecb_of table) m i j
+pub one-way-table : (table : Table) (m : Single) (i j : ℕ) → ways_in table ≡ 1 → charge_at table m i j ≡ plain_charge_with (marks_of table) (ecb_of table) ∅ 0 m i j
 one-way-table table m i j e =
-    ap (λ (w : ℕ). charge_of w (λ k. counts w (at table k).ucb) (ecb_of table) m i j) e
-    ∙ ap (λ (U : ℕ → Counts). charge_of 1 U (ecb_of table) m i j) (fun_ext (λ k. one-level (at table k).ucb.levels))
-    ∙ one-way (marks_of table) (ecb_of table) i j m
+    alone table m i j
+    ∙ ap (λ (w : ℕ). charge_with w (λ k. counts w (at table k).ucb) (ecb_of table) nothing 0 m i j) e
+    ∙ ap₂ (λ (U : ℕ → Counts) (X : Counts). charge_with 1 U (ecb_of table) X 0 m i j) (fun_ext (λ k. one-level (at table k).ucb.levels)) none-marked
+    ∙ one-way-with (marks_of table) (ecb_of table) i j ∅ 0 m

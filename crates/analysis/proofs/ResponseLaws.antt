@@ -1,5 +1,5 @@
 -- What a response means.
-use Rattle.std.proofs.Common.{ℕ, List, length, map, ◌≡◌, ◌≤◌, ◌<◌, min, inl, inr, refl, sym, ap, subst, ◌∙◌, arith, get_or}
+use Rattle.std.proofs.Common.{ℕ, zero, suc, List, [], ◌∷◌, Some, None, length, map, ◌≡◌, ◌≤◌, ◌<◌, min, inl, inr, refl, sym, ap, subst, ◌∙◌, arith, get_or}
 use Rattle.std.specs.List.{All, Any}
 use Rattle.std.proofs.lemmas.List.{get_or-map, length-map, get_or_default}
 use Rattle.std.proofs.Math.Decide.{dec_le}
@@ -7,6 +7,8 @@ use Rattle.std.proofs.Math.Nat.{le_antisymm}
 use Rattle.search.specs.declared.demand.Response.{Response}
 use Rattle.search.specs.declared.demand.Response.TheVariants.{Within, Unschedulable}
 use Rattle.search.specs.Least.{NoLater, sooner, IsLatest}
+use Rattle.search.specs.Positions.{front}
+use Rattle.search.proofs.FrontLaws.{front_at}
 use Rattle.search.proofs.LeastLaws.{least-unique}
 use Rattle.table.specs.Tasks.{limit_of}
 use Rattle.table.specs.declared.accesses.Access.{Access}
@@ -17,7 +19,9 @@ use Rattle.analysis.specs.declared.costs.Single.{Single}
 use Rattle.analysis.specs.declared.costs.Single.TheVariants.{UcbUnion, EcbUnion}
 use Rattle.analysis.specs.declared.Method.{Method}
 use Rattle.analysis.specs.declared.Method.TheVariants.{Of, Combined}
-use Rattle.analysis.specs.Analysis.{blockers_of, least_under, counted_response, response_of}
+use Rattle.analysis.specs.Analysis.{methods, blockers_of, least_under, counted_response, response_of}
+use Rattle.analysis.specs.declared.rows.Row.{Row}
+use Rattle.analysis.specs.Rows.{row_of, no_row, answer_at, AreResponses}
 use Rattle.analysis.proofs.AnswerLaws.{answer-means, least-means}
 use Rattle.analysis.specs.Responses.{demand_while, IsLeastWhile, IsLatestLeast, IsCounted, IsSooner, IsResponse}
 
@@ -100,3 +104,18 @@ response-is table Combined i = record {
 pub response-promised : (table : Table) (m : Method) (i : ℕ) (r : Response) → r ≡ response_of table m i
     → record { value : r ≡ response_of table m i; means : IsResponse table m i r }
 response-promised table m i r e = record { value = e; means = subst (IsResponse table m i) (sym e) (response-is table m i) }
+
+-- what `rows::responses` promises
+picked : {A : Type 0} (f : Method → A) (l : List Method) (n : ℕ) (m : Method) (d : A) → get_or (map Some l) n None ≡ Some m → get_or (map f l) n d ≡ f m
+picked f [] n m d e = let z : ◌≡◌ {A = ℕ} 0 1 = cc in absurd (omega arith)
+picked f (k ∷ l) zero m d e = let same : k ≡ m = cc in ap f same
+picked f (k ∷ l) (suc n) m d e = picked f l n m d e
+
+rows-are : (table : Table) → AreResponses table (front no_row (row_of table) table.count)
+rows-are table i h n m e =
+    let is : answer_at (front no_row (row_of table) table.count) i n ≡ response_of table m i =
+    ap (λ (r : Row). get_or r.responses n Unschedulable) (front_at no_row (row_of table) table.count i no_row h) ∙ picked (λ m. response_of table m i) methods n m Unschedulable e in
+    subst (IsResponse table m i) (sym is) (response-is table m i)
+
+pub rows_mean : (table : Table) (rows : List Row) → rows ≡ front no_row (row_of table) table.count → AreResponses table rows
+rows_mean table rows e = subst (AreResponses table) (sym e) (rows-are table)

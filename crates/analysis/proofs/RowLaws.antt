@@ -24,7 +24,7 @@ use Rattle.table.specs.Tables.{ways_in, at, accesses_of}
 use Rattle.table.specs.Accepted.{AcceptedTable}
 use Rattle.analysis.specs.declared.costs.Single.{Single}
 use Rattle.analysis.specs.declared.costs.Single.TheVariants.{None, EcbOnly, UcbOnly, UcbUnion, EcbUnion}
-use Rattle.analysis.specs.Costs.{reloads_of, reloads_with, ucb_of, ecb_of, term_under}
+use Rattle.analysis.specs.Costs.{reloads_with, ucb_of, ecb_of, term_under}
 use Rattle.analysis.proofs.OrderLaws.{ucb-union-with, ecb-union-with, term-ranged}
 use Rattle.analysis.specs.declared.carried.Column.{Column}
 use Rattle.analysis.specs.declared.carried.Terms.{Terms}
@@ -239,7 +239,7 @@ module _ (table : Table) (i : ℕ) (accepted : AcceptedTable table) (here : i < 
 -- ---- on from the task above
 
 none-at : (table : Table) (i : ℕ) (r : Terms) → Weighed table i r → (j : ℕ) → j < i → term_in r.none j ≡ plain_of table j
-unfolding reloads_of
+unfolding reloads_with
 none-at table i r p j l = p.terms.each None j zero-le l
 
 module _ (table : Table) (i : ℕ) (accepted : AcceptedTable table) (here : i < table.count) where

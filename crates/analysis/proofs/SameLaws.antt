@@ -27,14 +27,13 @@ use Rattle.analysis.specs.declared.costs.Single.TheVariants.{None, EcbOnly, UcbO
 use Rattle.analysis.specs.declared.costs.Charge.{Charge}
 use Rattle.analysis.specs.declared.costs.Charge.TheVariants.{Victim, NoVictim}
 use Rattle.analysis.specs.Gather.{aff, union_of, hit, larger_of, largest_at}
-use Rattle.analysis.specs.Costs.{no_victim, charge_of, charge_with, reloads_in, reloads_with, charge_under, term_with, term_under, ucb_of, ecb_of}
+use Rattle.analysis.specs.Costs.{no_victim, charge_with, reloads_in, reloads_with, charge_under, term_with, term_under, ucb_of, ecb_of}
 use Rattle.analysis.specs.Same.{unowned, SameDownTo}
 use Rattle.analysis.specs.declared.need.Need.{Need}
 use Rattle.analysis.specs.Needs.{is_sooner, need_with, larger_need, largest_need, needed_of, need_of}
 use Rattle.analysis.specs.declared.Method.{Method}
 use Rattle.analysis.specs.declared.Method.TheVariants.{Of, Combined}
 use Rattle.analysis.specs.Analysis.{blockers_of, least_under, counted_response, response_of}
-use Rattle.analysis.proofs.CostLaws.{with_none}
 use Rattle.analysis.proofs.HitLaws.{larger-count, first-largest}
 
 -- ---- a charge, under every method that counts
@@ -49,7 +48,6 @@ module _ (ways : ℕ) (U U' : ℕ → Counts) (E E' : ℕ → Set) (i : ℕ) (us
   evicted : union_of E (hp (j + 1)) ≡ union_of E' (hp (j + 1))
   evicted = fold_same ◌∪◌ ∅ E E' 0 (j + 1 - 0) (λ k _ l. evicting k (omega (arith, above)))
 
-  -- with a member more of aff(i, j)
   pub charge-same : (X : Counts) (n : ℕ) (m : Single) → charge_with ways U E X n m i j ≡ charge_with ways U' E' X n m i j
   charge-same X n None = refl
   charge-same X n EcbOnly = ap (λ (A : Set). no_victim (size A * ways)) (evicting j (omega arith))
@@ -62,10 +60,6 @@ module _ (ways : ℕ) (U U' : ℕ → Counts) (E E' : ℕ → Set) (i : ℕ) (us
       ∙ (let V = union_of E' (hp (j + 1)) in
       ap (λ (h : Hit). Victim (larger_of h (hit (total (X on V)) n)))
       (hits (λ k. total (U k on V)) (λ k. total (U' k on V)) (λ k l. ap (λ (S : Counts). total (S on V)) (useful k l))))
-
-  -- and without one
-  pub charge-alone-same : (m : Single) → charge_of ways U E m i j ≡ charge_of ways U' E' m i j
-  charge-alone-same m = sym (with_none ways U E 0 i j m) ∙ charge-same nothing 0 m ∙ with_none ways U' E' 0 i j m
 
 -- ---- whosever the member more is
 

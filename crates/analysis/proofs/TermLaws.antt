@@ -8,7 +8,7 @@ use Rattle.table.specs.declared.accesses.Access.{Access}
 use Rattle.table.specs.declared.Table.{Table}
 use Rattle.analysis.specs.declared.costs.Single.{Single}
 use Rattle.analysis.specs.declared.costs.Charge.{Charge}
-use Rattle.analysis.specs.Costs.{reloads_in, reloads_of, reloads_with, term_with, term_at, term_under}
+use Rattle.analysis.specs.Costs.{reloads_in, reloads_with, term_with, term_at, term_under}
 use Rattle.analysis.proofs.CostLaws.{charge-past}
 use Rattle.analysis.specs.declared.carried.Terms.{Terms}
 use Rattle.analysis.specs.Carried.{terms_for, FullTerms, TermPut, HasTerms, WeighedUnder}
@@ -39,7 +39,7 @@ has-none w x = record { each = λ m k a b. absurd (omega arith) }
 
 -- at the ceiling and below it nothing is added
 pub term-past : (table : Table) (a : Access) (m : Single) (i j : ℕ) → a.ceiling ≤ j → term_under table a m i j ≡ term_at table m i j
-unfolding reloads_of reloads_with
+unfolding reloads_with
 term-past table a m i j past = ap (λ (g : Charge). term_with table j (reloads_in g)) (charge-past table a m i j past)
 
 pub joined : (table : Table) (a : Access) (i j : ℕ) (r : Terms) → a.ceiling ≤ j → FullTerms r → HasTerms (λ m j. term_under table a m i j) 0 j r

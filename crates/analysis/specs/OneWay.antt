@@ -13,15 +13,7 @@ use Rattle.analysis.specs.declared.costs.Charge.TheVariants.{Victim}
 use Rattle.analysis.specs.Gather.{aff, union_of, hit, larger_of, largest_at}
 use Rattle.analysis.specs.Costs.{no_victim}
 
--- g(i, j) where U k and E k are the UCB and the ECB of the task at k
-abbrev pub plain_charge : (ℕ → Set) → (ℕ → Set) → Single → ℕ → ℕ → Charge
-plain_charge U E None i j = no_victim 0
-plain_charge U E EcbOnly i j = no_victim (size (E j))
-plain_charge U E UcbOnly i j = Victim (largest_at (λ k. size (U k)) (aff i j))
-plain_charge U E UcbUnion i j = no_victim (size (union_of U (aff i j) ∩ E j))
-plain_charge U E EcbUnion i j = Victim (largest_at (λ k. size (U k ∩ union_of E (hp (j + 1)))) (aff i j))
-
--- with one member more of aff(i, j): the set X, of the task at n
+-- g(i, j) where U k and E k are the UCB and the ECB of the task at k, and aff(i, j) has one member more: the set X, of the task at n
 abbrev pub plain_charge_with : (ℕ → Set) → (ℕ → Set) → Set → ℕ → Single → ℕ → ℕ → Charge
 plain_charge_with U E X n None i j = no_victim 0
 plain_charge_with U E X n EcbOnly i j = no_victim (size (E j))

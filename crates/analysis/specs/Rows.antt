@@ -1,5 +1,5 @@
 -- The answers for all tasks of a table.
-use Rattle.std.specs.Prelude.{ℕ, ◌+◌, ◌≡◌, ◌<◌, true, List, [], ◌∷◌, map, replicate, length}
+use Rattle.std.specs.Prelude.{ℕ, ◌+◌, ◌≡◌, ◌<◌, List, [], ◌∷◌, map, replicate, length, slice_index_or, Some}
 use Rattle.analysis.specs.declared.rows.Row.{Row}
 use Rattle.search.specs.declared.demand.Term.{Term}
 use Rattle.search.specs.declared.demand.Response.{Response}
@@ -14,7 +14,9 @@ use Rattle.table.specs.Tables.{at}
 use Rattle.analysis.specs.declared.costs.Single.{Single}
 use Rattle.analysis.specs.declared.costs.Single.TheVariants.{None, EcbOnly, UcbOnly, UcbUnion, EcbUnion}
 use Rattle.analysis.specs.Costs.{term_with}
-use Rattle.analysis.specs.Analysis.{methods, least_under, counted_response, response_of}
+use Rattle.analysis.specs.declared.Method.{Method}
+use Rattle.analysis.specs.Analysis.{methods, method_of, least_under, counted_response, response_of}
+use Rattle.analysis.specs.Responses.{IsResponse}
 use Rattle.analysis.specs.declared.rows.Answers.{Answers}
 
 -- the responses of the task at i under each method; and a row without a response, which stands past the last task
@@ -23,6 +25,14 @@ row_of table i = record { responses = map (λ m. response_of table m i) methods 
 
 abbrev pub no_row : Row
 no_row = record { responses = replicate 6 Unschedulable }
+
+-- the answer of a row of these, at a place in it
+abbrev pub answer_at : List Row → ℕ → ℕ → Response
+answer_at rows i n = slice_index_or (slice_index_or rows i no_row).responses n Unschedulable
+
+-- rows that hold the responses of every task, each under the method whose number is its place in its row
+abbrev pub AreResponses : Table → List Row → Type 0
+AreResponses table rows = (i : ℕ) → i < table.count → (n : ℕ) (m : Method) → method_of n ≡ Some m → IsResponse table m i (answer_at rows i n)
 
 -- ---- the answers of one row
 

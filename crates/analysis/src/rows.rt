@@ -10,7 +10,7 @@ ghost use Rattle.search.specs.Counts.{Started};
 ghost use Rattle.table.specs.Tables.{at};
 ghost use Rattle.analysis.specs.Carried.{Ledger, Weighed, WeighedUnder};
 ghost use Rattle.analysis.specs.Analysis.{MayBlock};
-ghost use Rattle.analysis.specs.Rows.{Answered, NoneSoonerThanCheaper, WithOne, row_told, plain_of, CarriedCounts, no_row, row_of};
+ghost use Rattle.analysis.specs.Rows.{Answered, NoneSoonerThanCheaper, WithOne, row_told, plain_of, CarriedCounts, no_row, row_of, AreResponses};
 
 use crate::blockers::Blockers;
 use crate::carried::{Column, Terms};
@@ -221,8 +221,10 @@ fn carry_on(pending: Pending, counts: &mut [Count; 32])
 }
 
 // The responses of every task of a table under every method. A small table gets a short ledger: the time to clear a long one would show there.
+#[tactic(auto, using(crate::proofs::ResponseLaws::rows_mean))]
 pub fn responses(accepted: Accepted) -> [Row; 32]
-    ensures { result ≡ front no_row (row_of accepted.entry.table.now) accepted.entry.table.now.count }
+    ensures rows { result ≡ front no_row (row_of accepted.entry.table.now) accepted.entry.table.now.count }
+    ensures means { AreResponses accepted.entry.table.now result }
 {
     if accepted.table.count <= 4 {
         each_row(accepted, &mut [Column::NONE; 4])

@@ -1,5 +1,5 @@
 -- Laws of digits that count useful blocks: one level of them as a number, word by word.
-use Rattle.std.proofs.Common.{◌≡◌, refl, sym, ap, ap₂, ◌∙◌, subst, Bool, true, false, cond, List, [], ◌∷◌, ◌++◌, map, ℕ, zero, suc, ◌+◌, ◌-◌, ◌*◌, ◌/◌, ◌%◌, ◌^◌, ◌≤◌, ◌<◌, min, zero-le, zero-add, add_comm, one-add, zero-mul, add-one, add-mul, mul_assoc, mod-lt, mod-eq_of_lt, div-one, lt_of_lt_of_le, arith, lit<, length, take, drop, get_or, drop-cons, drop-drop, take-add, take_all, length-take, length-take-le, length-drop, pow-suc, pow-add, pow_mono, leb, ltb, eqb, eqb-true, bit_or, set, replicate, length-set, get_or-set_same, get_or-set_other, ext_get_or, le-ltb, lt-ltb, ltb-true, ltb-false}
+use Rattle.std.proofs.Common.{◌≡◌, refl, sym, ap, ap₂, ◌∙◌, subst, Bool, true, false, cond, List, [], ◌∷◌, ◌++◌, map, ℕ, zero, suc, ◌+◌, ◌-◌, ◌*◌, ◌/◌, ◌%◌, ◌^◌, ◌≤◌, ◌<◌, min, zero-le, zero-add, add_comm, one-add, zero-mul, add-one, add-mul, mul_assoc, mod-lt, mod-eq_of_lt, div-one, lt_of_lt_of_le, arith, lit<, length, take, drop, get_or, drop-cons, take-add, take_all, length-take, length-take-le, length-drop, pow-suc, pow-add, pow_mono, ltb, eqb, eqb-true, bit_or, set, replicate, length-set, get_or-set_same, get_or-set_other, ext_get_or, le-ltb, lt-ltb, ltb-true, ltb-false}
 use Rattle.std.proofs.Math.Arith.{digits_lt}
 use Rattle.std.proofs.Math.Nat.{zero-div}
 use Rattle.std.proofs.Math.Path.{fun_ext}
@@ -11,7 +11,7 @@ use Rattle.std.proofs.lemmas.List.{get_or-replicate}
 use Rattle.std.proofs.lemmas.Nat.{or_shifted, mod-pow-add}
 use Rattle.cache.specs.Sets.{Set}
 use Rattle.cache.specs.declared.sets.CacheSet.{CacheSet}
-use Rattle.cache.specs.Words.{bits_of, number_of, words_of, members}
+use Rattle.cache.specs.Words.{bits_of, number_of, words_of}
 use Rattle.cache.proofs.WordLaws.{WordsInRange, rest-bits, words-number}
 use Rattle.cache.specs.Counts.{Counts, nothing, capped}
 use Rattle.cache.specs.declared.useful.Useful.{Useful}

@@ -1,5 +1,5 @@
 -- Laws of hex digits and the numbers that they say.
-use Rattle.std.proofs.Common.{◌≡◌, refl, sym, ap, ap₂, ◌∙◌, subst, subst₂, ◌⊎◌, inl, inr, ⊎_elim, Bool, true, false, ◌&&◌, cond, List, [], ◌∷◌, ◌++◌, ℕ, suc, ◌+◌, ◌*◌, ◌-◌, ◌^◌, ◌≤◌, ◌<◌, zero-le, lt_of_lt_of_le, add-zero, zero-add, mul_assoc, zero-mul, add-one, arith, length, take, drop, get_or, length-take, length-drop, take-append-drop, pow-add, pow_mono, drop-cons, drop-drop, length-take-le, leb, lit<, leb-true}
+use Rattle.std.proofs.Common.{◌≡◌, refl, sym, ap, ap₂, ◌∙◌, subst, subst₂, ◌⊎◌, inl, inr, ⊎_elim, Bool, true, false, ◌&&◌, cond, List, [], ◌∷◌, ◌++◌, ℕ, suc, ◌+◌, ◌*◌, ◌-◌, ◌^◌, ◌≤◌, ◌<◌, zero-le, lt_of_lt_of_le, add-zero, zero-add, mul_assoc, zero-mul, add-one, arith, length, take, drop, get_or, length-drop, take-append-drop, pow-add, pow_mono, drop-cons, drop-drop, length-take-le, leb, lit<, leb-true}
 use Rattle.std.proofs.Math.Arith.{digits_lt, lt-one}
 use Rattle.std.proofs.Math.Bool.{and-eq-true_iff}
 use Rattle.std.proofs.Math.Decide.{dec_le}

@@ -1,6 +1,7 @@
 -- Laws of levels: what they count, and what one level more in each cache set of a set does.
-use Rattle.std.proofs.Common.{◌≡◌, refl, sym, ap, ap₂, ◌∙◌, Bool, true, false, cond, ◌&&◌, ◌||◌, List, [], ◌∷◌, map, ℕ, zero, suc, ◌+◌, ◌*◌, ◌≤◌, ◌<◌, min, zero-le, le_refl, add-one, arith, lit<, length, get_or, set, replicate, get_or-set_same, get_or-set_other}
+use Rattle.std.proofs.Common.{◌≡◌, refl, sym, ap, ap₂, ◌∙◌, Bool, true, false, cond, ◌&&◌, ◌||◌, List, map, ℕ, zero, suc, ◌+◌, ◌*◌, ◌≤◌, ◌<◌, min, zero-le, le_refl, add-one, arith, lit<, length, set, replicate, get_or-set_same, get_or-set_other}
 use mir.Val.{bool_byte}
+use Rattle.std.proofs.Math.Decide.{dec_lt}
 use Rattle.std.proofs.Math.Path.{fun_ext}
 use Rattle.std.proofs.lemmas.List.{length-map}
 use Rattle.cache.specs.declared.sets.CacheSet.{CacheSet}
@@ -8,11 +9,15 @@ use Rattle.cache.specs.Sets.{Set, ∅, ◌∪◌, ◌∩◌, size}
 use Rattle.cache.specs.Words.{members}
 use Rattle.cache.proofs.WordLaws.{members-empty}
 use Rattle.cache.specs.Counts.{Counts, nothing, of_set, ◌⊕◌, capped, ◌on◌, total}
-use Rattle.cache.specs.Levels.{level, heights}
+use Rattle.cache.specs.declared.useful.Useful.{Useful}
+use Rattle.cache.specs.Levels.{level, heights, counts, Puts}
 use Rattle.cache.proofs.CountLaws.{total-add, total-nothing, on-add, on-nothing, on-set, one-way-size, total-most, capped-within, capped_left, add_comm, add_assoc, nothing-add}
 
 abbrev Sets : Type 0
 Sets = List CacheSet
+
+abbrev blank : CacheSet
+blank = record { w0 = 0; w1 = 0; w2 = 0; w3 = 0 }
 
 -- the list of an array of structs is as long as the array
 pub length-mapped : {X Y : Type 0} (f : X → Y) (l : List X) (n : ℕ) → length (map f l) ≡ n → length l ≡ n
@@ -46,6 +51,10 @@ total-on-more n sets E =
     ∙ ap total (on-add (heights n sets) (of_set (level sets n)) E ∙ ap (λ (U : Counts). heights n sets on E ⊕ U) (on-set (level sets n) E))
     ∙ total-add (heights n sets on E) (of_set (level sets n ∩ E))
     ∙ ap (λ (x : ℕ). total (heights n sets on E) + x) (one-way-size (level sets n ∩ E))
+
+next-height : (n : ℕ) (sets : Sets) (s : ℕ) → heights (suc n) sets s ≡ heights n sets s + one (level sets n s)
+unfolding heights ◌⊕◌ of_set
+next-height n sets s = refl
 
 -- ---- the count of one cache set
 
@@ -81,7 +90,7 @@ heights-le (suc n) sets s = omega (arith, heights-le n sets s, one-le (level set
 pub total-le : (n : ℕ) (sets : Sets) → total (heights n sets) ≤ 256 * n
 total-le n sets = total-most n (heights n sets) (heights-le n sets)
 
--- ---- a store above the levels that are looked at, and at the next
+-- ---- a store at a level
 
 heights-set : (n w : ℕ) (sets : Sets) (c : CacheSet) → n ≤ w → heights n (set sets w c) ≡ heights n sets
 unfolding heights
@@ -90,22 +99,30 @@ heights-set (suc n) w sets c h =
     ap₂ (λ (U W : Counts). U ⊕ W) (heights-set n w sets c (omega arith))
     (ap (λ (x : CacheSet). of_set (members x)) (get_or-set_other sets w n c _ (λ e. omega arith)))
 
-heights-next : (n : ℕ) (sets : Sets) (c : CacheSet) → n < length sets → heights (n + 1) (set sets n c) ≡ heights n sets ⊕ of_set (members c)
-heights-next n sets c h =
-    level-more n (set sets n c)
-    ∙ ap₂ (λ (U W : Counts). U ⊕ W) (heights-set n n sets c (le_refl n))
-    (ap (λ (x : CacheSet). of_set (members x)) (get_or-set_same sets n c _ h))
+-- what the level had is counted no more, and what is stored is
+heights-put : (n w : ℕ) (sets : Sets) (c : CacheSet) (s : ℕ) → w < n → w < length sets
+    → heights n (set sets w c) s + one (level sets w s) ≡ heights n sets s + one (members c s)
+heights-put zero w sets c s h m = absurd (omega arith)
+heights-put (suc n) w sets c s h m = omega (arith, next-height n (set sets w c) s, next-height n sets s, at (λ l. heights-put n w sets c s l m))
+  where
+    at : (w < n → heights n (set sets w c) s + one (level sets w s) ≡ heights n sets s + one (members c s))
+        → heights n (set sets w c) s + one (level (set sets w c) n s) + one (level sets w s) ≡ heights n sets s + one (level sets n s) + one (members c s)
+    at lower = elim (dec_lt w n) [
+      | yes l ↦ omega (arith, lower l, ap (λ (x : CacheSet). one (members x s)) (get_or-set_other sets w n c blank (λ e. omega arith)))
+      | no l ↦
+          let e : n ≡ w = omega arith in
+          omega (
+            arith,
+            ap (λ (U : Counts). U s) (heights-set n w sets c (omega arith)),
+            ap (λ (k : ℕ). one (level (set sets w c) k s)) e ∙ ap (λ (x : CacheSet). one (members x s)) (get_or-set_same sets w c blank m),
+            ap (λ (k : ℕ). one (level sets k s)) e,
+          )
+    ]
 
--- ---- one more in each cache set of A: the levels below n are done, and the cache sets of C are still to be placed
+-- ---- one more in each cache set of A
 
-pub record Raising (A : Set) (old new : Sets) (C : Set) (n : ℕ) : Type 0 where
-  pub kept : (k : ℕ) → n ≤ k → level new k ≡ level old k
-  pub placed : (s : ℕ) → heights n new s + one (C s) ≡ heights n old s + one (A s)
-  pub full : (s : ℕ) → C s ≡ true → heights n new s ≡ n
-
-pub begin : (A : Set) (old : Sets) → Raising A old old A 0
-unfolding heights nothing
-begin A old = record { kept = λ k h. refl; placed = λ s. refl; full = λ s h. refl }
+pub put-none : (from : ℕ) (u : Useful) (A : Set) → Puts from from u A u A
+put-none from u A = record { counted = λ n h. refl; kept = λ l h. refl; left = λ s h. h; full = λ l s h m e. absurd (omega arith) }
 
 or-and : (x c : Bool) → one (x || c) + one (x && c) ≡ one x + one c
 or-and true true = refl
@@ -113,34 +130,49 @@ or-and true false = refl
 or-and false true = refl
 or-and false false = refl
 
-both : (x c : Bool) → (x && c) ≡ true → (one (x || c) ≡ 1) × (c ≡ true)
+both : (x c : Bool) → (x && c) ≡ true → ((x || c) ≡ true) × (c ≡ true)
 both true true h = (refl, refl)
 both true false h = (refl, h)
 both false c h = let z : ◌≡◌ {A = ℕ} 0 1 = cc in absurd (omega arith)
 
-module _ {A : Set} {old new : Sets} {C : Set} {n : ℕ} (r : Raising A old new C n) where
-  pub next : (u : CacheSet) (D : Set) → n < length new → members u ≡ level new n ∪ C → D ≡ level new n ∩ C → Raising A old (set new n u) D (n + 1)
+module _ {from n : ℕ} {old new : Useful} {A C : Set} (p : Puts from n old A new C) where
+  pub put-more : (u : CacheSet) (next : Useful) (D : Set) → n < length new.levels → next.levels ≡ set new.levels n u
+      → members u ≡ level new.levels n ∪ C → D ≡ level new.levels n ∩ C → Puts from (n + 1) old A next D
   unfolding ◌∪◌ ◌∩◌ of_set ◌⊕◌
-  next u D h p q = record {
-    kept = λ k l. ap members (get_or-set_other new n k u _ (λ e. omega arith)) ∙ r.kept k (omega arith);
-    placed = λ s. omega (arith, now s, then s, r.placed s, or-and (level new n s) (C s), ap (λ (X : Set). one (X s)) q);
-    full = λ s d. let b = both (level new n s) (C s) (sym (ap (λ (X : Set). X s) q) ∙ d) in omega (arith, now s, r.full s b.1, b.0);
+  put-more u next D h e q r = record {
+    counted = λ ways m. fun_ext (λ s. omega (arith, ap (λ (ls : Sets). heights ways ls s) e, heights-put ways n new.levels u s (omega arith) h, at s, ap (λ (U : Counts). U s) (p.counted ways (omega arith)), or-and (level new.levels n s) (C s), ap (λ (X : Set). one (X s)) r));
+    kept = λ l m. ap (λ (ls : Sets). level ls l) e ∙ ap members (get_or-set_other new.levels n l u _ (λ e. omega arith)) ∙ p.kept l (omega arith);
+    left = λ s d. p.left s (has s d).1;
+    full = λ l s a b d. elim (dec_lt l n) [ yes m ↦ ap (λ (ls : Sets). level ls l s) e ∙ ap (λ (x : CacheSet). members x s) (get_or-set_other new.levels n l u _ (λ e. omega arith)) ∙ p.full l s a m (has s d).1 | no m ↦ here l s (omega arith) d ];
   }
     where
-      now : (s : ℕ) → heights (n + 1) (set new n u) s ≡ heights n new s + one (level new n s || C s)
-      now s = ap (λ (U : Counts). U s) (heights-next n new u h) ∙ ap (λ (X : Set). heights n new s + one (X s)) p
+      at : (s : ℕ) → one (members u s) ≡ one (level new.levels n s || C s)
+      at s = ap (λ (X : Set). one (X s)) q
 
-      then : (s : ℕ) → heights (n + 1) old s ≡ heights n old s + one (level new n s)
-      then s = ap (λ (U : Counts). U s) (level-more n old) ∙ ap (λ (X : Set). heights n old s + one (X s)) (sym (r.kept n (le_refl n)))
+      has : (s : ℕ) → D s ≡ true → ((level new.levels n s || C s) ≡ true) × (C s ≡ true)
+      has s d = both (level new.levels n s) (C s) (sym (ap (λ (X : Set). X s) r) ∙ d)
 
-  -- what finds no place is where the levels are full
-  pub done : heights n new ≡ capped n (heights n old ⊕ of_set A)
-  unfolding capped of_set ◌⊕◌
-  done = fun_ext (λ s. at (C s) (r.full s) (r.placed s) (heights-le n new s))
-    where
-      at : {h x : ℕ} (c : Bool) → (c ≡ true → h ≡ n) → h + one c ≡ x → h ≤ n → h ≡ min n x
-      at true f e l = omega (arith, f refl)
-      at false f e l = omega arith
+      here : (l s : ℕ) → l ≡ n → D s ≡ true → level next.levels l s ≡ true
+      here l s f d =
+          ap₂ (λ (ls : Sets) (k : ℕ). level ls k s) e f ∙ ap (λ (x : CacheSet). members x s) (get_or-set_same new.levels n u _ h) ∙ ap (λ (X : Set). X s) q
+          ∙ (has s d).0
+
+-- a cache set that each level has is counted at each
+heights-full : (n : ℕ) (sets : Sets) (s : ℕ) → ((l : ℕ) → l < n → level sets l s ≡ true) → heights n sets s ≡ n
+heights-full zero sets s h = height-none sets s
+heights-full (suc n) sets s h = omega (arith, next-height n sets s, heights-full n sets s (λ l m. h l (omega arith)), ap one (h n (omega arith)))
+
+-- from one level on and then below it: what finds no place is where all are full
+pub put-twice : {k n : ℕ} {old mid new : Useful} {A C D : Set} → Puts k n old A mid C → Puts 0 k mid C new D → k ≤ n → counts n new ≡ capped n (counts n old ⊕ of_set A)
+unfolding capped of_set ◌⊕◌
+put-twice {k} {n} {old} {mid} {new} {A} {C} {D} p q h = fun_ext (λ s. at (D s) (full s) (ap (λ (U : Counts). U s) (q.counted n h) ∙ ap (λ (U : Counts). U s) (p.counted n (le_refl n))) (heights-le n new.levels s))
+  where
+    full : (s : ℕ) → D s ≡ true → heights n new.levels s ≡ n
+    full s d = heights-full n new.levels s (λ l m. elim (dec_lt l k) [ yes a ↦ q.full l s zero-le a d | no a ↦ ap (λ (X : Set). X s) (q.kept l (omega arith)) ∙ p.full l s (omega arith) m (q.left s d) ])
+
+    at : {x y : ℕ} (d : Bool) → (d ≡ true → x ≡ n) → x + one d ≡ y → x ≤ n → x ≡ min n y
+    at true f e l = omega (arith, f refl)
+    at false f e l = omega arith
 
 -- ---- the levels of others, one after the other
 
@@ -157,9 +189,6 @@ join_more n w U others p q =
     ∙ ap (capped n) (add_assoc U (heights w others) (of_set (level others w)) ∙ ap (λ (W : Counts). U ⊕ W) (sym (level-more w others)))
 
 -- ---- nothing, and a set alone
-
-abbrev blank : CacheSet
-blank = record { w0 = 0; w1 = 0; w2 = 0; w3 = 0 }
 
 level-blank : (m k : ℕ) → level (replicate m blank) k ≡ ∅
 level-blank zero k = members-empty

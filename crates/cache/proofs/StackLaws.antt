@@ -1,12 +1,11 @@
 -- Levels of which each stands on the one below it: they are the levels of what they count, and there are no others.
-use Rattle.std.proofs.Common.{◌≡◌, refl, sym, ap, ◌∙◌, Bool, true, false, cond, List, [], ◌∷◌, map, ℕ, zero, suc, ◌+◌, ◌-◌, ◌%◌, ◌^◌, ◌≤◌, ◌<◌, zero-le, le_refl, add-one, arith, lit<, length, get_or, ext_get_or, ltb, eqb, lt-ltb, le-ltb}
+use Rattle.std.proofs.Common.{◌≡◌, refl, sym, ap, ◌∙◌, Bool, true, false, cond, List, [], ◌∷◌, map, ℕ, zero, suc, ◌+◌, ◌-◌, ◌%◌, ◌^◌, ◌≤◌, ◌<◌, le_refl, arith, lit<, length, get_or, ext_get_or, ltb, eqb, lt-ltb, le-ltb}
 use Rattle.std.proofs.Math.Decide.{dec_lt}
 use Rattle.std.proofs.Math.Nat.{zero-div}
 use Rattle.std.proofs.Math.Path.{fun_ext}
 use Rattle.cache.specs.declared.sets.CacheSet.{CacheSet}
 use Rattle.cache.specs.declared.useful.Useful.{Useful}
-use Rattle.cache.specs.Sets.{Set, ∅}
-use Rattle.cache.specs.Words.{bits_of, number_of, members}
+use Rattle.cache.specs.Words.{number_of, members}
 use Rattle.cache.specs.Counts.{Counts, nothing, of_set, ◌⊕◌}
 use Rattle.cache.specs.Levels.{set_at, level, heights, counts, above, set_of, leveled}
 use Rattle.cache.proofs.WordLaws.{WordsInRange, number_lt}

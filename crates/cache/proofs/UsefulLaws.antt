@@ -1,5 +1,5 @@
 -- What is known of a field that says useful blocks.
-use Rattle.std.proofs.Common.{◌≡◌, refl, sym, ap, ◌∙◌, Bool, true, false, ◌&&◌, cond, List, [], ◌∷◌, map, ℕ, zero, suc, ◌+◌, ◌-◌, ◌*◌, ◌%◌, ◌^◌, ◌≤◌, ◌<◌, min, le_refl, zero-le, lt_of_lt_of_le, max, arith, length, replicate, get_or, pow-suc, leb, ltb, eqb, leb-true, eqb-true, ltb-true, ltb-false, lt-ltb, le-ltb}
+use Rattle.std.proofs.Common.{◌≡◌, refl, sym, ap, ◌∙◌, Bool, true, false, ◌&&◌, cond, List, [], ◌∷◌, ℕ, zero, suc, ◌+◌, ◌-◌, ◌*◌, ◌%◌, ◌^◌, ◌≤◌, ◌<◌, zero-le, max, arith, length, replicate, pow-suc, leb, ltb, eqb, eqb-true, ltb-true, lt-ltb, le-ltb}
 use Rattle.std.proofs.Math.Decide.{dec_lt}
 use Rattle.std.proofs.Math.Nat.{zero-div}
 use Rattle.std.proofs.lemmas.Bool.{false≢true, eqb-false}
@@ -13,11 +13,11 @@ use Rattle.cache.specs.declared.useful.Form.{Form}
 use Rattle.cache.specs.declared.useful.Form.TheVariants.{Hex, Digits}
 use Rattle.cache.specs.declared.useful.Useful.{Useful}
 use Rattle.cache.specs.Sets.{Set, ∅}
-use Rattle.cache.specs.Words.{bits_of, number_of, words_of, members}
+use Rattle.cache.specs.Words.{bits_of, members}
 use Rattle.cache.specs.Field.{read_set}
 use Rattle.cache.specs.Counts.{Counts, nothing, capped}
 use Rattle.cache.specs.Levels.{level, above, number_below, set_of, leveled, marked}
-use Rattle.cache.specs.UsefulField.{is_digit, push, read_counts, counts_of, is_counted, read_useful}
+use Rattle.cache.specs.UsefulField.{is_digit, push, read_counts, counts_of, read_useful}
 use Rattle.cache.proofs.SetLaws.{and_left, and_right}
 use Rattle.cache.proofs.WordLaws.{members-empty, members-words}
 use Rattle.cache.proofs.FieldLaws.{read_below}

@@ -1,5 +1,5 @@
 -- What the levels of a `Useful` stand for: a cache set holds a useful block for each level that it is in.
-use Rattle.std.specs.Prelude.{ℕ, zero, suc, ◌+◌, ◌^◌, List, [], ◌∷◌, map, slice_index_or, if◌then◌else◌, nat_lt}
+use Rattle.std.specs.Prelude.{ℕ, zero, suc, ◌+◌, ◌^◌, ◌≤◌, ◌<◌, ◌≡◌, true, List, [], ◌∷◌, map, slice_index_or, if◌then◌else◌, nat_lt}
 use Rattle.cache.specs.declared.sets.CacheSet.{CacheSet}
 use Rattle.cache.specs.Sets.{Set}
 use Rattle.cache.specs.Words.{members, words_of}
@@ -21,6 +21,13 @@ heights (suc n) levels = heights n levels ⊕ of_set (level levels n)
 -- the counts, where there are so many ways
 abbrev pub counts : ℕ → Useful → Counts
 counts ways u = heights ways u.levels
+
+-- one block more in each cache set of A is put on the levels from `from` on, below `to`. Those of C find no place: each of these levels has them
+pub record Puts (from to : ℕ) (old : Useful) (A : Set) (new : Useful) (C : Set) : Type 0 where
+  pub counted : (ways : ℕ) → to ≤ ways → counts ways new ⊕ of_set C ≡ counts ways old ⊕ of_set A
+  pub kept : (l : ℕ) → to ≤ l → level new.levels l ≡ level old.levels l
+  pub left : (s : ℕ) → C s ≡ true → A s ≡ true
+  pub full : (l s : ℕ) → from ≤ l → l < to → C s ≡ true → level new.levels l s ≡ true
 
 -- ---- the levels of given counts
 

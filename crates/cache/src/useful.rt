@@ -5,7 +5,7 @@ ghost use Rattle.std.specs.Prelude.{◌≡◌, ◌≤◌, ◌<◌, ◌-◌, ◌*
 ghost use Rattle.std.specs.List.{list_all};
 ghost use Rattle.cache.specs.Words.{members};
 ghost use Rattle.cache.specs.Counts.{◌⊕◌, capped, ◌on◌, total};
-ghost use Rattle.cache.specs.Levels.{set_at, counts, above, set_of, leveled, held_levels, marked};
+ghost use Rattle.cache.specs.Levels.{set_at, counts, above, set_of, leveled, held_levels, marked, Puts};
 ghost use Rattle.cache.specs.UsefulField.{ways_of, is_digit, is_counted, counts_of, bits_above, read_useful, within_ways};
 
 use crate::sets::CacheSet;
@@ -112,20 +112,31 @@ impl Useful {
         joined.size_in(evicting, ways)
     }
 
-    // The counts of both, added and capped at the ways. Each level of the other is one block more in its cache sets: it is put on the lowest level that does not
-    // have the cache set, and where each has it, it is one too many.
+    // The counts of both, added and capped at the ways. A level of the other is one block more in each of its cache sets, and is put on the levels from its own on,
+    // and what finds no place there on those below; where each level has the cache set, it is one too many.
     pub fn join(&mut self, other: &Useful, ways: u64)
         requires { ways ≤ 8 }
         ensures { counts ways self.new ≡ capped ways (counts ways self.old ⊕ counts ways other.now) }
     {
-        for k in 0..ways as usize {
-            let mut more = other.levels[k];
-            for l in 0..ways as usize {
-                let level = self.levels[l];
-                self.levels[l] = level.union(more);
-                more = level.intersection(more);
-            }
+        let levels = ways as usize;
+        for k in 0..levels {
+            let left = self.put(other.levels[k], k, levels);
+            self.put(left, 0, k);
         }
+    }
+
+    // One block more in each cache set of a set, put on the lowest of some levels that does not have it. Those are left that each of these levels has.
+    fn put(&mut self, more: CacheSet, from: usize, to: usize) -> CacheSet
+        requires { (from ≤ to) × (to ≤ 8) }
+        ensures { Puts from to self.old (members more) self.new (members result) }
+    {
+        let mut more = more;
+        for l in from..to {
+            let level = self.levels[l];
+            self.levels[l] = level.union(more);
+            more = level.intersection(more);
+        }
+        more
     }
 
     // How many cache set `s` holds.

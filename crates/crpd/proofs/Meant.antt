@@ -1,5 +1,5 @@
 -- What the answers of the operations mean follows from which they are.
-use Rattle.std.proofs.Common.{ℕ, ◌≤◌, ◌<◌, List, ◌≡◌, refl, sym, ◌∙◌, Result}
+use Rattle.std.proofs.Common.{ℕ, List, ◌≡◌, refl, ◌∙◌, Result}
 use Rattle.std.proofs.lemmas.Bool.{le-ltb, lt-leb}
 use Rattle.search.specs.declared.demand.Response.{Response}
 use Rattle.table.specs.declared.refusals.Refusal.{Refusal}

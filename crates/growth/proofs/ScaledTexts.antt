@@ -12,7 +12,7 @@ use Rattle.table.specs.declared.tasks.Task.{Task}
 use Rattle.table.specs.declared.tasks.head.Head.{Head}
 use Rattle.table.specs.Tasks.{name_text, name_in, blank, empty_task}
 use Rattle.table.specs.Names.{has_name, knows}
-use Rattle.table.specs.TaskLine.{times_of, times_in_range, times_in_order}
+use Rattle.table.specs.TaskLine.{times_in_range, times_in_order}
 use Rattle.table.proofs.LineLaws.{both, ranges}
 use Rattle.table.specs.declared.accesses.Access.{Access}
 use Rattle.table.specs.Accesses.{empty_access}
@@ -52,7 +52,7 @@ lists table (text, e) =
 -- no task that a line can say has a C above the longest
 work-small : (form : Form) (sets : ℕ) (ts : List Task) → are_next form sets [] ts ≡ true → (j : ℕ) (d : Task) → j < length ts → (get_or ts j d).work.0 ≤ 250000000
 work-small form sets ts e j d h =
-    (ranges (times_of (get_or ts j d)) (next-holds form sets (take j ts) (get_or ts j d) (next-at form sets [] ts j d e h)).in-range).work.1
+    (ranges (get_or ts j d) (next-holds form sets (take j ts) (get_or ts j d) (next-at form sets [] ts j d e h)).in-range).work.1
 
 abbrev Small : Task → Type 0
 Small t = t.work.0 ≤ 250000000
@@ -100,10 +100,10 @@ module _ (k : ℕ) where
         }
 
   module _ (some : 1 ≤ k) where
-    in-range-scaled : (t : Task) → scaled_work k t.work.0 ≤ 250000000 → times_in_range (times_of t) ≡ true → times_in_range (times_of (scaled_task k t)) ≡ true
+    in-range-scaled : (t : Task) → scaled_work k t.work.0 ≤ 250000000 → times_in_range t ≡ true → times_in_range (scaled_task k t) ≡ true
     unfolding times_in_range
     in-range-scaled t fits e =
-        let r = (ranges (times_of t) e).work in
+        let r = (ranges t e).work in
         rw (le-leb 1 (scaled_work k t.work.0) (work-some t.work.0 k r.0 some), le-leb (scaled_work k t.work.0) 250000000 fits)
         (rw (le-leb 1 t.work.0 r.0, le-leb t.work.0 250000000 r.1) at e)
 

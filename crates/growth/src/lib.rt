@@ -13,7 +13,6 @@ ghost use Rattle.search.specs.Terms.{term_in, NoOverflow};
 ghost use Rattle.search.specs.Least.{least_of};
 ghost use Rattle.search.specs.Counts.{Started};
 ghost use Rattle.table_text.specs.Readable.{Readable};
-ghost use Rattle.table.specs.Accepted.{AcceptedTable};
 ghost use Rattle.analysis.specs.Costs.{term_with};
 ghost use Rattle.analysis.specs.Row.{ReadyToJoin};
 ghost use Rattle.analysis.specs.BlockedRow.{ChargedUnder, FewReloads, term_by};
@@ -33,7 +32,7 @@ use cache::units::{Reloads, Ticks};
 use search::demand::{Response, Term, demand_at};
 use search::response;
 use search::response::Count;
-use table::accepted::Pending;
+use table::accepted::{Accepted, Pending};
 use table::accesses::Access;
 use table::{Table, accesses};
 use table_text::extent;
@@ -221,13 +220,12 @@ fn smaller(a: u64, b: u64) -> u64
 }
 
 // The greatest k up to 4,000 by which each C may be scaled.
-fn fits_up_to(table: &Table) -> u64
-    requires { AcceptedTable table.now }
-    ensures { FitsUpTo table.now table.now.count result }
+fn fits_up_to(accepted: Accepted) -> u64
+    ensures { FitsUpTo accepted.entry.table.now accepted.entry.table.now.count result }
 {
     let mut most = scaling::MOST;
-    for j in 0..table.count {
-        most = smaller(most, LONGEST_WORK / table.task(j).work.0);
+    for j in 0..accepted.table.count {
+        most = smaller(most, LONGEST_WORK / accepted.table.task(j).work.0);
     }
     most
 }
@@ -272,7 +270,7 @@ pub fn growth(table: &Table, method: Method) -> u64
     ensures value { result ≡ growth_of method table.now }
     ensures means { IsGrowth table.now method result }
 {
-    let mut left = texts_up_to(table, fits_up_to(table));
+    let mut left = texts_up_to(table, fits_up_to(Accepted { table }));
     let mut likely = Ticks(0);
     for i in (0..table.count).rev() {
         if left == 0 {

@@ -4,11 +4,9 @@ use Rattle.std.proofs.Common.{◌≡◌, ℕ, ◌≤◌, Bool, true, false, cond
 use Rattle.table.specs.declared.refusals.Reason.TheVariants.{ShortBuffer}
 use Rattle.table.specs.declared.refusals.Refusal.{Refusal}
 use Rattle.table.specs.Numbers.{untold}
-use Rattle.table.specs.declared.Table.{Table}
-use Rattle.search.specs.declared.demand.Response.{Response}
 use Rattle.writing.specs.Delivery.{written_of, buffer_of, PutsText}
-use Rattle.crpd.specs.Operations.{answer_to, growth_to, told_of, left_of, WritesText, report_to, explanation_to, WritesTable, rewritten, scaled_to, printed}
-use Rattle.crpd.specs.Codes.{code_by, ticks_of, number_code, CodesText}
+use Rattle.crpd.specs.Operations.{told_of, left_of, WritesText, printed}
+use Rattle.crpd.specs.Codes.{number_code, CodesText}
 use Rattle.laws.specs.Calls.{started_with, CallsAgree, SameRoom}
 
 -- ---- a text that is delivered whole or refused
@@ -38,26 +36,12 @@ told-agree : {A B : Type 0} (told : A → B) {x y : A} {one other : B} {before a
     → one ≡ told x → other ≡ told y → after ≡ left → after' ≡ left' → CallsAgree one other before after before' after'
 told-agree told p e f g h = record { answers = e ∙ ap told p.answers ∙ sym f; bytes = p.bytes; after_is = g ∙ p.after_is; after'-is = h ∙ p.after'-is }
 
--- ---- the operations that answer only: `answer` and `growth`, and the numbers that are exported of them
+-- ---- the operations that answer only, `answer` and `growth`, and the numbers that are exported of them: whatever is promised, two that keep it agree
 
-alike : {A : Type 0} {x one other : A} → one ≡ x → other ≡ x → one ≡ other
-alike p q = p ∙ sym q
+pub calls-agree : {A : Type 0} {promised one other : A} → one ≡ promised → other ≡ promised → one ≡ other
+calls-agree p q = p ∙ sym q
 
-module _ (text : List ℕ) (m i : ℕ) where
-  pub answer-calls-agree : {one other : Result Response Refusal} → one ≡ answer_to text m i → other ≡ answer_to text m i → one ≡ other
-  answer-calls-agree = alike
-
-  pub exported-answer-calls-agree : {one other : ℕ} → one ≡ code_by ticks_of (answer_to text m i) → other ≡ code_by ticks_of (answer_to text m i) → one ≡ other
-  exported-answer-calls-agree = alike
-
-module _ (text : List ℕ) (m : ℕ) where
-  pub growth-calls-agree : {one other : Result ℕ Refusal} → one ≡ growth_to text m → other ≡ growth_to text m → one ≡ other
-  growth-calls-agree = alike
-
-  pub exported-growth-calls-agree : {one other : ℕ} → one ≡ number_code (growth_to text m) → other ≡ number_code (growth_to text m) → one ≡ other
-  exported-growth-calls-agree = alike
-
--- ---- the operations that write: one law for all texts
+-- ---- the operations that write: reports, explanations, rewritten and scaled texts of one text, and, by what is promised as `written`, texts of one table
 
 module _ {most : ℕ} {made : Result (List ℕ) Refusal} {before after before' after' : List ℕ} {one other : Result ℕ Refusal} where
   pub written-calls-agree : WritesText most made before one after → WritesText most made before' other after' → SameRoom most before before'
@@ -65,28 +49,6 @@ module _ {most : ℕ} {made : Result (List ℕ) Refusal} {before after before' a
   written-calls-agree p q room =
       told-agree (λ (w : Result ℕ Refusal). w) (made-agree made before before' (λ text e. fits-alike (length text) most before before' (p.short text e) room))
       p.answer-is q.answer-is p.buffer-is q.buffer-is
-
--- two reports, explanations, rewritten and scaled texts of one text, and two texts of one table
-module _ {before after before' after' : List ℕ} {one other : Result ℕ Refusal} where
-  pub report-calls-agree : (text : List ℕ) → WritesText 2746 (report_to text) before one after → WritesText 2746 (report_to text) before' other after' → SameRoom 2746 before before'
-      → CallsAgree one other before after before' after'
-  report-calls-agree text = written-calls-agree
-
-  pub explain-calls-agree : (text : List ℕ) (m i : ℕ) → WritesText 1348 (explanation_to text m i) before one after → WritesText 1348 (explanation_to text m i) before' other after'
-      → SameRoom 1348 before before' → CallsAgree one other before after before' after'
-  explain-calls-agree text m i = written-calls-agree
-
-  pub rewrite-calls-agree : (text : List ℕ) → WritesText 16384 (rewritten text) before one after → WritesText 16384 (rewritten text) before' other after' → SameRoom 16384 before before'
-      → CallsAgree one other before after before' after'
-  rewrite-calls-agree text = written-calls-agree
-
-  pub scaled-calls-agree : (text : List ℕ) (m : ℕ) → WritesText 16384 (scaled_to text m) before one after → WritesText 16384 (scaled_to text m) before' other after' → SameRoom 16384 before before'
-      → CallsAgree one other before after before' after'
-  scaled-calls-agree text m = written-calls-agree
-
-  pub write-calls-agree : (table : Table) → WritesTable table before one after → WritesTable table before' other after' → SameRoom 16384 before before'
-      → CallsAgree one other before after before' after'
-  write-calls-agree table p q = written-calls-agree p.written q.written
 
 -- ---- what is exported of these: the numbers of `crpd_report`, `crpd_explain`, `crpd_rewrite` and `crpd_scaled`
 
@@ -107,4 +69,4 @@ module _ {text before after before' after' : List ℕ} {one other : ℕ} where
 
 pub print-calls-agree : (text : List ℕ) {before after before' after' : List ℕ} {one other : ℕ} → PutsText (printed text) before one after
     → PutsText (printed text) before' other after' → CallsAgree one other before after before' after'
-print-calls-agree text p q = record { answers = p.length-is ∙ sym q.length-is; bytes = printed text; after_is = p.buffer-is; after'-is = q.buffer-is }
+print-calls-agree text p q = record { answers = calls-agree p.length-is q.length-is; bytes = printed text; after_is = p.buffer-is; after'-is = q.buffer-is }

@@ -19,7 +19,7 @@ use Rattle.table.specs.Tables.{ways_in, tasks_of, at, accesses_of}
 use Rattle.analysis.specs.declared.costs.Single.{Single}
 use Rattle.analysis.specs.declared.costs.Single.TheVariants.{UcbUnion, EcbUnion}
 use Rattle.analysis.specs.declared.costs.Charge.{Charge}
-use Rattle.analysis.specs.Costs.{charge_of, charge_at, reloads_with}
+use Rattle.analysis.specs.Costs.{charge_with, charge_at, reloads_with}
 use Rattle.analysis.specs.declared.Method.{Method}
 use Rattle.analysis.specs.declared.Method.TheVariants.{Of, Combined}
 use Rattle.analysis.specs.Analysis.{counted_response, response_of}
@@ -63,8 +63,8 @@ module _ (figure table : Table) (like : IsTableOf figure table) where
 
   same-charge : (m : Single) (i j : ℕ) → charge_at table m i j ≡ charge_at figure m i j
   same-charge m i j =
-      ap (λ (T : ℕ → Task). charge_of (ways_in table) (λ k. counts (ways_in table) (T k).ucb) (λ k. members (T k).ecb) m i j) same-tasks
-      ∙ ap (λ (ways : ℕ). charge_of ways (λ k. counts ways (at figure k).ucb) (λ k. members (at figure k).ecb) m i j) like.ways
+      ap (λ (T : ℕ → Task). charge_with (ways_in table) (λ k. counts (ways_in table) (T k).ucb) (λ k. members (T k).ecb) (added_by (ways_in table) empty_access j) 0 m i j) same-tasks
+      ∙ ap (λ (ways : ℕ). charge_with ways (λ k. counts ways (at figure k).ucb) (λ k. members (at figure k).ecb) (added_by ways empty_access j) 0 m i j) like.ways
 
 -- where two maps agree
 same-at : {A B : Type 0} (f g : A → B) (xs : List A) → map f xs ≡ map g xs → (k : ℕ) (d : A) → k < length xs → f (get_or xs k d) ≡ g (get_or xs k d)

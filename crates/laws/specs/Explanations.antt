@@ -1,44 +1,23 @@
--- What an explanation says is true of the equation, and rests on nothing that stands below its task but the accesses that may block it.
-use Rattle.std.specs.Prelude.{ℕ, ◌+◌, ◌*◌, ◌≤◌, ◌<◌, ◌≡◌, List}
+-- What an explanation tells is the response, where there is one, and rests on nothing that stands below its task but the accesses that may block it.
+use Rattle.std.specs.Prelude.{ℕ, ◌≤◌, ◌<◌, ◌≡◌, List}
 use Rattle.cache.specs.declared.units.Ticks.{Ticks}
-use Rattle.search.specs.declared.demand.Response.TheVariants.{Within, Unschedulable}
-use Rattle.search.specs.Positions.{hp, fold_by}
+use Rattle.search.specs.declared.demand.Response.TheVariants.{Within}
 use Rattle.table.specs.Tasks.{limit_of}
 use Rattle.table.specs.declared.tasks.Task.{Task}
 use Rattle.table.specs.declared.Table.{Table}
 use Rattle.table.specs.Tables.{at}
-use Rattle.analysis.specs.Costs.{reloads_in, charge_under}
 use Rattle.analysis.specs.declared.Method.{Method}
 use Rattle.analysis.specs.Analysis.{response_of}
-use Rattle.analysis.specs.declared.need.Need.{Need}
 use Rattle.analysis.specs.Needs.{need_of}
 use Rattle.analysis.specs.Same.{unowned_need, SameDownTo, SameNamesDownTo}
-use Rattle.report.specs.Explanation.{activations_in}
 use Rattle.crpd.specs.Operations.{WritesText, explanation_to}
 use Rattle.report.specs.declared.explanation.TheConstants.{LONGEST_EXPLANATION}
 use Rattle.crpd.specs.Meanings.{ReadsAs}
 use Rattle.laws.specs.Added.{TaskAdded, LineAdded}
 use Rattle.laws.specs.Calls.{CallsAgree, SameRoom}
-use Rattle.laws.specs.declared.explanations.Sum.{Sum}
 use Rattle.laws.specs.declared.explanations.NeedAndResponse.{NeedAndResponse}
 use Rattle.laws.specs.declared.explanations.TwoNeeds.{TwoNeeds}
 use Rattle.laws.specs.declared.explanations.TwoExplanations.{TwoExplanations}
-
--- what the line of the task at j adds: its activations in r ticks, each with its work and the time of the reloads that it is charged
-abbrev pub adds_at : Table → Need → ℕ → ℕ → ℕ → ℕ
-adds_at table need i r j =
-    activations_in r (at table j) * ((at table j).work.0 + table.brt.0 * reloads_in (charge_under table need.blocker need.method i j))
-
--- C of the task at i, how long it is blocked, and what the lines of the tasks above it add
-abbrev pub sum_of : Table → Need → ℕ → ℕ → ℕ
-sum_of table need i r = fold_by ◌+◌ ((at table i).work.0 + need.blocker.lasts.0) (adds_at table need i r) (hp i)
-
--- the need; where it is not beyond, the total is this sum, and the sum is the need; where it is, the total is 0
-pub record AddsUp (table : Table) (m : Method) (i : ℕ) (r : Sum) : Type 0 where
-  pub need_is : r.need ≡ need_of table m i
-  pub total_is : (R : Ticks) → r.need.time ≡ Within R → r.total.0 ≡ sum_of table r.need i R.0
-  pub adds_up : (R : Ticks) → r.need.time ≡ Within R → r.total ≡ R
-  pub beyond : r.need.time ≡ Unschedulable → r.total.0 ≡ 0
 
 -- the need and the response; where there is a response, it is the need, and within D - J; and a need within D - J is the response
 pub record IsNeededAsAnswered (table : Table) (m : Method) (i : ℕ) (r : NeedAndResponse) : Type 0 where

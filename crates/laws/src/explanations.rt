@@ -1,21 +1,12 @@
-// What an explanation says is true of the equation.
-ghost use Rattle.std.specs.Prelude.{◌≡◌, ◌<◌, ◌≤◌};
-ghost use Rattle.report.specs.Explained.{Explainable};
-ghost use Rattle.laws.specs.Explanations.{sum_of, AddsUp, IsNeededAsAnswered, NeededAlike, ExplainedAlike};
+// What an explanation says of the response, and on what it rests.
+ghost use Rattle.std.specs.Prelude.{◌<◌};
+ghost use Rattle.laws.specs.Explanations.{IsNeededAsAnswered, NeededAlike, ExplainedAlike};
 
 use analysis::need::Need;
-use analysis::{Method, blocked_row, costs, need, one_row};
-use cache::units::Ticks;
+use analysis::{Method, need};
 use search::demand::Response;
 use table::accepted::{Accepted, Pending};
 use table::refusals::Refusal;
-
-// What a task needs, and what the lines of its explanation add up to; 0 where the need is beyond.
-#[derive(Clone, Copy)]
-pub struct Sum {
-    pub need: Need,
-    pub total: Ticks,
-}
 
 // What a task needs, and its response.
 #[derive(Clone, Copy)]
@@ -36,35 +27,6 @@ pub struct TwoNeeds {
 pub struct TwoExplanations {
     pub first: Result<usize, Refusal>,
     pub second: Result<usize, Refusal>,
-}
-
-// C and the length as they are shown, and for each task above its activations in `r` ticks, each with its work and the time of its reloads.
-fn total_of(pending: Pending, need: &Need, r: u64) -> u64
-    requires { (r ≤ 250000000) × Explainable pending.table.now need.now pending.i }
-    ensures { result ≡ sum_of pending.entry.table.now need.now pending.entry.i r }
-{
-    let mut row = one_row::charged(pending, need.method);
-    blocked_row::join(pending, need.method, &need.blocker, &mut row);
-    let mut total = pending.task().work.0 + need.blocker.lasts.0;
-    for j in 0..pending.i {
-        total += costs::term(pending, j, row[j].count()).work(r);
-    }
-    total
-}
-
-// What explains the answer of a method for the task at i: its lines add up to it.
-pub fn total(pending: Pending, method: Method) -> Sum
-    ensures { AddsUp pending.entry.table.now method pending.entry.i result }
-{
-    let need = need::explained(pending, method);
-    let Response::Within(time) = need.time else {
-        return Sum {
-            need,
-            total: Ticks(0),
-        };
-    };
-    let total = Ticks(total_of(pending, &need, time.0));
-    Sum { need, total }
 }
 
 // What explains the answer of a method for the task at i, and the answer.

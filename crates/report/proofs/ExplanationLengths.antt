@@ -28,10 +28,10 @@ use Rattle.writing.specs.Text.{spelled}
 use Rattle.writing.proofs.Spelling.{spelled_short}
 use Rattle.report.proofs.Lists.{flat_map-more}
 use Rattle.report.specs.Explanation.{method_number, needed_text, need_line, activations_in, name_at, victim_text, reason_line, reason_lines, explanation_of}
-use Rattle.report.specs.Explained.{NeedInRange, IsBlocker, VictimBelow}
+use Rattle.report.specs.Explained.{adds_at, NeedInRange, IsBlocker, VictimBelow}
 use Rattle.report.proofs.ExplanationParts.{nine-digits, needed-short, victim-below}
 use Rattle.report.proofs.Ranges.{Needed, needed}
-use Rattle.report.proofs.Truth.{adds_at, explanation-adds-up}
+use Rattle.report.proofs.Truth.{explanation-adds-up}
 
 -- how many digits a number can have, as it grows: seven cost a million, and each further one at least nine million
 digits-cost : (n : ℕ) → n < 1000000000 → 9000000 * length (spelled n) ≤ 62000000 + n

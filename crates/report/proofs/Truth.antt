@@ -1,16 +1,16 @@
 -- What an explanation says is true of the equation: its lines add up to the need, and the victim has the reloads that are charged. What a need says of
 -- the response stands in `need`.
-use Rattle.std.proofs.Common.{ℕ, ◌+◌, ◌*◌, ◌≤◌, ◌<◌, arith, ◌≡◌, sym, subst, ◌∙◌}
+use Rattle.std.proofs.Common.{ℕ, ◌+◌, ◌≤◌, ◌<◌, arith, ◌≡◌, sym, subst, ◌∙◌}
 use Rattle.cache.specs.declared.units.Ticks.{Ticks}
 use Rattle.cache.specs.Counts.{Counts, ◌on◌, total}
 use Rattle.search.specs.declared.demand.Response.TheVariants.{Within}
-use Rattle.search.specs.Positions.{hp, fold_by}
+use Rattle.search.specs.Positions.{hp}
 use Rattle.search.specs.Demand.{demand_of}
 use Rattle.search.proofs.LeastLaws.{answer-reached}
 use Rattle.table.specs.declared.accesses.Access.{Access}
 use Rattle.table.specs.Accesses.{added_by}
 use Rattle.table.specs.declared.Table.{Table}
-use Rattle.table.specs.Tables.{ways_in, at}
+use Rattle.table.specs.Tables.{ways_in}
 use Rattle.table.specs.Accepted.{AcceptedTable}
 use Rattle.analysis.specs.declared.costs.Hit.{Hit}
 use Rattle.analysis.specs.declared.costs.Single.{Single}
@@ -18,24 +18,28 @@ use Rattle.analysis.specs.declared.costs.Single.TheVariants.{None, EcbOnly, UcbO
 use Rattle.analysis.specs.declared.Method.{Method}
 use Rattle.analysis.specs.declared.costs.Charge.TheVariants.{Victim}
 use Rattle.analysis.specs.Gather.{aff, union_of, hit, larger_of, largest_at, FirstLargest}
-use Rattle.analysis.specs.Costs.{reloads_in, reloads_with, ucb_of, ecb_of, charge_under}
+use Rattle.analysis.specs.Costs.{reloads_with, ucb_of, ecb_of, charge_under}
 use Rattle.analysis.proofs.HitLaws.{larger-by, first-largest}
 use Rattle.analysis.specs.Needs.{need_of}
 use Rattle.report.proofs.Ranges.{needed}
-use Rattle.report.specs.Explanation.{activations_in}
+use Rattle.analysis.proofs.NeedLaws.{response-needed}
+use Rattle.report.specs.Explained.{sum_of, AddsUp}
 
 -- ---- own time, blocking and the products
 
--- what the line of the task at j adds while an access blocks i: its activations, each with its work and the time of its reloads
-abbrev pub adds_at : Table → Access → Single → ℕ → ℕ → ℕ → ℕ
-adds_at table a m i R j = activations_in R (at table j) * ((at table j).work.0 + table.brt.0 * reloads_in (charge_under table a m i j))
-
 -- C, how long the task is blocked, and what the line of each task above adds, are what is needed, whichever of the six methods is explained
 pub explanation-adds-up : (table : Table) → AcceptedTable table → (i : ℕ) → i < table.count → (m : Method) → (R : Ticks) → (need_of table m i).time ≡ Within R
-    → fold_by ◌+◌ ((at table i).work.0 + (need_of table m i).blocker.lasts.0) (adds_at table (need_of table m i).blocker (need_of table m i).method i R.0) (hp i) ≡ R.0
+    → sum_of table (need_of table m i) i R.0 ≡ R.0
 unfolding demand_of reloads_with
 explanation-adds-up table accepted i held m R e =
     sym (answer-reached _ 250000000 R (sym e ∙ (needed table accepted i held m).time-is)).2
+
+-- and that is the response, where there is one
+pub adds-up : (table : Table) → AcceptedTable table → (i : ℕ) → i < table.count → (m : Method) → AddsUp table m i
+adds-up table accepted i held m = record {
+  sum = explanation-adds-up table accepted i held m;
+  response = λ R e. (response-needed table accepted i held m R e).0;
+}
 
 -- ---- the victim
 

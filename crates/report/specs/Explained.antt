@@ -1,20 +1,41 @@
 -- What the writer of an explanation promises, and what its parts are handed.
-use Rattle.std.specs.Prelude.{ℕ, ◌≤◌, ◌<◌, List, length, Result}
+use Rattle.std.specs.Prelude.{ℕ, ◌+◌, ◌*◌, ◌≤◌, ◌<◌, ◌≡◌, List, length, Result}
+use Rattle.cache.specs.declared.units.Ticks.{Ticks}
 use Rattle.cache.specs.declared.units.TheConstants.Ticks.{LONGEST}
+use Rattle.search.specs.declared.demand.Response.TheVariants.{Within}
+use Rattle.search.specs.Positions.{hp, fold_by}
 use Rattle.search.specs.Least.{AnswerInRange}
 use Rattle.table.specs.declared.tasks.Task.{Task}
 use Rattle.table.specs.declared.accesses.Access.{Access}
 use Rattle.table.specs.declared.Table.{Table}
+use Rattle.table.specs.Tables.{at}
+use Rattle.analysis.specs.declared.costs.Single.{Single}
+use Rattle.analysis.specs.Costs.{reloads_in, charge_under}
 use Rattle.analysis.specs.declared.costs.Charge.{Charge}
 use Rattle.analysis.specs.declared.costs.Charge.TheVariants.{Victim, NoVictim}
 use Rattle.table.specs.Accepted.{AcceptedTable}
 use Rattle.analysis.specs.declared.Method.{Method}
-use Rattle.analysis.specs.Analysis.{MayBlock}
+use Rattle.analysis.specs.Analysis.{MayBlock, response_of}
+use Rattle.analysis.specs.Needs.{need_of}
 use Rattle.analysis.specs.declared.need.Need.{Need}
 use Rattle.table.specs.declared.refusals.Refusal.{Refusal}
 use Rattle.writing.specs.Delivery.{DeliversText}
-use Rattle.report.specs.Explanation.{explanation_of}
+use Rattle.report.specs.Explanation.{activations_in, explanation_of}
 use Rattle.report.specs.declared.explanation.TheConstants.{LONGEST_EXPLANATION}
+
+-- what the line of the task at j adds while an access blocks i: its activations in r ticks, each with its work and the time of the reloads that it is charged
+abbrev pub adds_at : Table → Access → Single → ℕ → ℕ → ℕ → ℕ
+adds_at table a m i r j = activations_in r (at table j) * ((at table j).work.0 + table.brt.0 * reloads_in (charge_under table a m i j))
+
+-- C of the task at i, how long it is blocked, and what the lines of the tasks above it add
+abbrev pub sum_of : Table → Need → ℕ → ℕ → ℕ
+sum_of table need i r = fold_by ◌+◌ ((at table i).work.0 + need.blocker.lasts.0) (adds_at table need.blocker need.method i r) (hp i)
+
+-- the figures that the explanation of what method m answers for the task at i shows add up: where what is needed is not beyond, this sum is it; and where there is a
+-- response, it is what is needed
+pub record AddsUp (table : Table) (m : Method) (i : ℕ) : Type 0 where
+  pub sum : (R : Ticks) → (need_of table m i).time ≡ Within R → sum_of table (need_of table m i) i R.0 ≡ R.0
+  pub response : (R : Ticks) → response_of table m i ≡ Within R → (need_of table m i).time ≡ Within R
 
 -- the explanation is delivered, and it is never longer than that
 pub record DeliversExplanation (table : Table) (m : Method) (i : ℕ) (before : List ℕ) (written : Result ℕ Refusal) (after : List ℕ) : Type 0 where

@@ -2,7 +2,7 @@
 
 mod lines;
 
-ghost use Rattle.report.specs.Explained.{DeliversExplanation};
+ghost use Rattle.report.specs.Explained.{DeliversExplanation, AddsUp};
 
 use analysis::{Method, need};
 use lines::{write_need_line, write_reasons};
@@ -14,9 +14,10 @@ use writing::writer::Draft;
 // No explanation has more bytes.
 pub const LONGEST_EXPLANATION: usize = 1348;
 
-// The explanation of what a method answers for a task. It is written aside and delivered whole.
+// The explanation of what a method answers for a task, of which the figures add up to the response. It is written aside and delivered whole.
 pub fn explain(pending: Pending, method: Method, out: &mut [u8]) -> Result<usize, Refusal>
-    ensures { DeliversExplanation pending.entry.table.now method pending.entry.i out.old result out.new }
+    ensures delivers { DeliversExplanation pending.entry.table.now method pending.entry.i out.old result out.new }
+    ensures adds_up { AddsUp pending.entry.table.now method pending.entry.i }
 {
     let needed = need::explained(pending, method);
     let mut draft = Draft::new();

@@ -1,14 +1,12 @@
 -- Facts about the demand: what a term asks for, the demand of one term more, and that it grows with all that it is made of.
 use Rattle.std.proofs.Common.{ℕ, zero, suc, ◌+◌, ◌-◌, ◌*◌, ◌≤◌, ◌<◌, zero-le, div-lt_iff_lt-mul, le_antisymm, lt_of_not-le, mul-le-mul, mul-le-mul_left, add-one, arith, ◌≡◌, refl, sym, ap, ◌↔◌, List}
 use Rattle.std.proofs.Math.Path.{fun_ext}
-use Rattle.search.specs.declared.demand.Response.TheVariants.{Unschedulable}
 use Rattle.search.specs.Positions.{hp, fold_by}
 use Rattle.search.specs.declared.demand.Term.{Term}
 use Rattle.search.specs.Demand.{ceil, activations_of, work_of, demand_of, NoMore}
 use Rattle.search.specs.Terms.{InRange, NoOverflow}
 use Rattle.search.specs.Least.{least_of, NoLater}
 use Rattle.search.proofs.LeastLaws.{Monotone, least_of-no-later}
-use Rattle.search.proofs.SoonerLaws.{none-latest}
 use Rattle.search.proofs.PositionLaws.{fold-none, fold_next, fold_same, fold-keeps, Rising, place-lt, Grows, gathered}
 
 -- ---- one term

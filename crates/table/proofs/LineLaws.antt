@@ -2,7 +2,7 @@
 use Rattle.std.proofs.Common.{◌≡◌, ℕ, ◌≤◌, Bool, true, ◌&&◌, leb-true, leb}
 use Rattle.std.proofs.Math.Bool.{and-eq-true_iff}
 use Rattle.table.specs.Fields.{is_within}
-use Rattle.table.specs.declared.tasks.line.Times.{Times}
+use Rattle.table.specs.declared.tasks.Task.{Task}
 use Rattle.table.specs.TaskLine.{times_in_range, times_in_order}
 
 pub both : (a b : Bool) → (a && b) ≡ true → (a ≡ true) × (b ≡ true)
@@ -14,12 +14,12 @@ lies low high n e =
     (leb-true low n p.0, leb-true n high p.1)
 
 -- what the tests on a task's numbers say
-pub record Ranges (t : Times) : Type 0 where
+pub record Ranges (t : Task) : Type 0 where
   pub work : (1 ≤ t.work.0) × (t.work.0 ≤ 250000000)
   pub period : (1 ≤ t.period.0) × (t.period.0 ≤ 250000000)
   pub deadline : (1 ≤ t.deadline.0) × (t.deadline.0 ≤ 250000000)
 
-pub ranges : (t : Times) → times_in_range t ≡ true → Ranges t
+pub ranges : (t : Task) → times_in_range t ≡ true → Ranges t
 unfolding times_in_range
 ranges t e4 =
     let c = is_within 1 250000000 t.work.0 in
@@ -35,7 +35,7 @@ ranges t e4 =
       deadline = lies 1 250000000 _ e2.1;
     }
 
-pub order : (t : Times) → times_in_order t ≡ true → (t.jitter.0 ≤ t.deadline.0) × (t.deadline.0 ≤ t.period.0)
+pub order : (t : Task) → times_in_order t ≡ true → (t.jitter.0 ≤ t.deadline.0) × (t.deadline.0 ≤ t.period.0)
 unfolding times_in_order
 order t e =
     let p = both (leb t.jitter.0 t.deadline.0) (leb t.deadline.0 t.period.0) e in

@@ -1,5 +1,5 @@
 -- What a task line says, field by field, and its refusals, each with its condition, in the order in which they are tried.
-use Rattle.std.specs.Prelude.{ℕ, List, [], ◌∷◌, Bool, ◌≡◌, true, not, ◌&&◌, Option, Some, None, is_some, unwrap_or, if◌then◌else◌, nat_le, nat_lt, ◌==◌}
+use Rattle.std.specs.Prelude.{ℕ, List, [], ◌∷◌, Bool, ◌≡◌, true, not, ◌&&◌, is_some, unwrap_or, nat_le, nat_lt, ◌==◌}
 use Rattle.cache.specs.declared.units.TheConstants.Ticks.{LONGEST}
 use Rattle.table.specs.Cut.{field, field_count}
 use Rattle.table.specs.Fields.{is_number, number, is_name, is_within}
@@ -10,7 +10,6 @@ use Rattle.table.specs.declared.refusals.Reason.TheVariants.{Shape, Name, Number
 use Rattle.table.specs.Rows.{Conditions}
 use Rattle.table.specs.declared.tasks.Task.{Task}
 use Rattle.table.specs.declared.tasks.line.TaskFields.{TaskFields}
-use Rattle.table.specs.declared.tasks.line.Times.{Times}
 use Rattle.table.specs.Names.{knows}
 use Rattle.cache.specs.declared.units.Ticks.{Ticks}
 use Rattle.table.specs.Tasks.{pack_name, no_sets, no_blocks}
@@ -27,28 +26,8 @@ pub record AreTaskFields (line : List ℕ) (f : TaskFields) : Type 0 where
   pub ucb : f.ucb.now ≡ field 7 line
   pub ecb : f.ecb.now ≡ field 8 line
 
--- the times that fields say: C, T, D and J
-abbrev pub times_said : (work period deadline jitter : List ℕ) → Times
-times_said work period deadline jitter = record {
-  work = record { 0 = number work };
-  period = record { 0 = number period };
-  deadline = record { 0 = number deadline };
-  jitter = record { 0 = number jitter };
-}
-
-abbrev pub are_numbers : (work period deadline jitter : List ℕ) → Bool
-are_numbers work period deadline jitter = is_number work && is_number period && is_number deadline && is_number jitter
-
-unfoldable pub read_times : (work period deadline jitter : List ℕ) → Option Times
-read_times work period deadline jitter =
-    if are_numbers work period deadline jitter then Some (times_said work period deadline jitter) else None
-
--- the times of a task
-abbrev pub times_of : Task → Times
-times_of t = record { work = t.work; period = t.period; deadline = t.deadline; jitter = t.jitter }
-
 -- the ranges of a task's times: J may be 0
-unfoldable pub times_in_range : Times → Bool
+unfoldable pub times_in_range : Task → Bool
 times_in_range t =
     is_within 1 LONGEST t.work.0
     && is_within 1 LONGEST t.period.0
@@ -56,12 +35,8 @@ times_in_range t =
     && is_within 0 LONGEST t.jitter.0
 
 -- J ≤ D ≤ T
-unfoldable pub times_in_order : Times → Bool
+unfoldable pub times_in_order : Task → Bool
 times_in_order t = nat_le t.jitter.0 t.deadline.0 && nat_le t.deadline.0 t.period.0
-
--- the times that a task line says
-abbrev pub line_times : List ℕ → Times
-line_times line = times_said (field 2 line) (field 3 line) (field 4 line) (field 5 line)
 
 -- B of a task line, which says nothing of the task
 abbrev pub blocking_said : List ℕ → Ticks
@@ -70,33 +45,32 @@ blocking_said line = record { 0 = number (field 6 line) }
 abbrev pub has_blocking : List ℕ → Bool
 has_blocking line = nat_lt 0 (blocking_said line).0
 
--- what a task line says: after `T` the name, then the times, the useful blocks and the evicting sets (none where a field says none)
+-- what a task line says: after `T` the name, then C, T, D and J, the useful blocks and the evicting sets (none where a field says none)
 unfoldable pub task_said : Form → ℕ → List ℕ → Task
-task_said form sets line =
-    let times = line_times line in record {
-      name = pack_name (field 1 line);
-      work = times.work;
-      period = times.period;
-      deadline = times.deadline;
-      jitter = times.jitter;
-      ucb = unwrap_or (read_useful form sets (field 7 line)) no_blocks;
-      ecb = unwrap_or (read_set sets (field 8 line)) no_sets;
-    }
+task_said form sets line = record {
+  name = pack_name (field 1 line);
+  work = record { 0 = number (field 2 line) };
+  period = record { 0 = number (field 3 line) };
+  deadline = record { 0 = number (field 4 line) };
+  jitter = record { 0 = number (field 5 line) };
+  ucb = unwrap_or (read_useful form sets (field 7 line)) no_blocks;
+  ecb = unwrap_or (read_set sets (field 8 line)) no_sets;
+}
 
 -- the times and B are numbers
 abbrev pub are_line_numbers : List ℕ → Bool
-are_line_numbers line = are_numbers (field 2 line) (field 3 line) (field 4 line) (field 5 line) && is_number (field 6 line)
+are_line_numbers line = is_number (field 2 line) && is_number (field 3 line) && is_number (field 4 line) && is_number (field 5 line) && is_number (field 6 line)
 
 -- a line whose first field is `T`, below these tasks: each condition is looked for in every field before the next one is
 unfoldable pub task_rows : Form → ℕ → List Task → List ℕ → Conditions
 task_rows form sets above line =
-    let times = line_times line in
+    let task = task_said form sets line in
     (not (field_count line == 9), Shape)
     ∷ (not (is_name (field 1 line)), Name)
     ∷ (not (are_line_numbers line), Number)
-    ∷ (not (times_in_range times && is_within 0 LONGEST (blocking_said line).0), Range)
+    ∷ (not (times_in_range task && is_within 0 LONGEST (blocking_said line).0), Range)
     ∷ (not (is_some (read_useful form sets (field 7 line)) && is_some (read_set sets (field 8 line))), Marks)
     ∷ (not (within_ways form (field 7 line)), TooManyBlocks)
-    ∷ (not (times_in_order times), Order)
+    ∷ (not (times_in_order task), Order)
     ∷ (knows (pack_name (field 1 line)) above, KnownName)
     ∷ []

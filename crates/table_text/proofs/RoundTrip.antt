@@ -28,9 +28,8 @@ use Rattle.table.specs.Tables.{tasks_of, accesses_of, new_table}
 use Rattle.table.specs.Accepted.{AcceptedTable}
 use Rattle.table.specs.Reading.{told, then_read, line_rows, with_line, ended, is_blocked, first_blocked, unless_blocked, read_from, read_below, read_lines, read_text}
 use Rattle.table.proofs.AcceptedLaws.{accepted-lines}
-use Rattle.table_text.specs.TableText.{head_fields, task_fields, access_fields, lines_of, line_text, table_text}
+use Rattle.table_text.specs.TableText.{head_fields, task_fields, access_fields, lines_of, line_text, table_text, NamesTasks}
 use Rattle.table_text.specs.Readable.{Whole, Readable}
-use Rattle.table_text.specs.Delivered.{NamesTasks}
 use Rattle.table_text.proofs.Lengths.{entered-known}
 use Rattle.table_text.specs.Tests.{head_of, is_next, are_next, is_entered, is_vacant, is_unused, has_lines, is_readable}
 use Rattle.table_text.proofs.Lines.{is-line, AreLines, are-lines-append, lines-written, ended-lines, is-ended}

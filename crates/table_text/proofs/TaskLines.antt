@@ -19,7 +19,7 @@ use Rattle.table.specs.declared.tasks.head.Head.{Head}
 use Rattle.table.specs.Tasks.{name_text, pack_name, no_sets, no_blocks}
 use Rattle.table.specs.Names.{is_filled, knows}
 use Rattle.table.specs.HeadLine.{is_head, ways_field, read_form, head_in_range, head_rows, head_said}
-use Rattle.table.specs.TaskLine.{times_of, times_said, times_in_range, times_in_order, task_rows, task_said, has_blocking}
+use Rattle.table.specs.TaskLine.{times_in_range, times_in_order, task_rows, task_said, has_blocking}
 use Rattle.table.specs.Reading.{is_blocked, is_task_line}
 use Rattle.table.proofs.Names.{name-kept}
 use Rattle.table.proofs.LineLaws.{both, lies, ranges, order}
@@ -203,8 +203,8 @@ module _ (l : List ℕ) (e : unless_fault (head_rows l) (tt {0}) ≡ Ok (tt {0})
 
 pub record NextHolds (form : Form) (sets : ℕ) (above : List Task) (t : Task) : Type 0 where
   pub filled : is_filled t.name ≡ true
-  pub in-range : times_in_range (times_of t) ≡ true
-  pub in_order : times_in_order (times_of t) ≡ true
+  pub in-range : times_in_range t ≡ true
+  pub in_order : times_in_order t ≡ true
   pub ucb : useful_fits form sets t.ucb ≡ true
   pub ecb : marks_fit sets t.ecb ≡ true
   pub new-name : knows t.name above ≡ false
@@ -216,7 +216,7 @@ next-holds form sets above t e =
     let p3 = both _ (marks_fit sets t.ecb) p4.0 in
     let p2 = both _ (useful_fits form sets t.ucb) p3.0 in
     let p1 = both (is_filled t.name) _ p2.0 in
-    let p0 = both (times_in_range (times_of t)) (times_in_order (times_of t)) p1.1 in
+    let p0 = both (times_in_range t) (times_in_order t) p1.1 in
     record { filled = p1.0; in-range = p0.0; in_order = p0.1; ucb = p2.1; ecb = p3.1; new-name = not-true _ p4.1 }
 
 pub task-plain : (form : Form) (sets : ℕ) (t : Task) → is_name (name_text t.name) ≡ true → AllPlain (task_fields form sets t)
@@ -228,8 +228,8 @@ module _ (form : Form) (w : ways_of form ≤ 8) (sets : ℕ) (few : sets ≤ 256
   module _ (above : List Task) (t : Task) (h : NextHolds form sets above t) (l : List ℕ) (f : fields l ≡ task_fields form sets t) where
     small : (t.work.0 < 1000000000) × (t.period.0 < 1000000000) × (t.deadline.0 < 1000000000) × (t.jitter.0 < 1000000000)
     small =
-        let r = ranges (times_of t) h.in-range in
-        let o = order (times_of t) h.in_order in
+        let r = ranges t h.in-range in
+        let o = order t h.in_order in
         (omega arith, omega arith, omega arith, omega arith)
 
     pub task-says : task_said form sets l ≡ t
@@ -255,6 +255,7 @@ module _ (form : Form) (w : ways_of form ≤ 8) (sets : ℕ) (few : sets ≤ 256
     task-fine =
         let n = small in
         rw (
+          task-says,
           f,
           (filled-name t.name h.filled).0,
           (filled-name t.name h.filled).1,
@@ -277,10 +278,10 @@ module _ (form : Form) (w : ways_of form ≤ 8) (sets : ℕ) (few : sets ≤ 256
       nine : (field_count l == 9) ≡ true
       name : is_name (field 1 l) ≡ true
       numbers : (is_number (field 2 l) && is_number (field 3 l) && is_number (field 4 l) && is_number (field 5 l) && is_number (field 6 l)) ≡ true
-      in-range : times_in_range (times_said (field 2 l) (field 3 l) (field 4 l) (field 5 l)) ≡ true
+      in-range : times_in_range (task_said form sets l) ≡ true
       marks : (is_some (read_useful form sets (field 7 l)) && is_some (read_set sets (field 8 l))) ≡ true
       within : within_ways form (field 7 l) ≡ true
-      in_order : times_in_order (times_said (field 2 l) (field 3 l) (field 4 l) (field 5 l)) ≡ true
+      in_order : times_in_order (task_said form sets l) ≡ true
       new-name : knows (pack_name (field 1 l)) above ≡ false
 
     rows : Rows
@@ -333,9 +334,8 @@ module _ (form : Form) (w : ways_of form ≤ 8) (sets : ℕ) (few : sets ≤ 256
         let p5 = both _ (is_number (field 5 l)) p6.0 in
         let p4 = both _ (is_number (field 4 l)) p5.0 in
         let p3 = both (is_number (field 2 l)) (is_number (field 3 l)) p4.0 in
-        let times = times_said (field 2 l) (field 3 l) (field 4 l) (field 5 l) in
-        let r = ranges times rows.in-range in
-        let o = order times rows.in_order in
+        let r = ranges (task_said form sets l) rows.in-range in
+        let o = order (task_said form sets l) rows.in_order in
         let zero : number (field 6 l) ≡ 0 = let low = ltb-false 0 _ free in omega arith in
         let letter = (bytes_eq-Decides (field 0 l) (codes "T")).0 kind in
         rw (

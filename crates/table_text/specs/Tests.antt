@@ -7,7 +7,7 @@ use Rattle.table.specs.Fields.{is_within}
 use Rattle.table.specs.declared.tasks.Task.{Task}
 use Rattle.table.specs.declared.tasks.head.Head.{Head}
 use Rattle.table.specs.HeadLine.{head_in_range}
-use Rattle.table.specs.TaskLine.{times_of, times_in_range, times_in_order}
+use Rattle.table.specs.TaskLine.{times_in_range, times_in_order}
 use Rattle.table.specs.Names.{is_filled, knows}
 use Rattle.table.specs.declared.accesses.Access.{Access}
 use Rattle.cache.specs.declared.useful.Form.{Form}
@@ -26,7 +26,7 @@ head_of table = record { sets = table.sets; brt = table.brt; form = table.form }
 unfoldable pub is_next : Form → ℕ → List Task → Task → Bool
 is_next form sets above t =
     is_filled t.name
-    && (times_in_range (times_of t) && times_in_order (times_of t))
+    && (times_in_range t && times_in_order t)
     && useful_fits form sets t.ucb
     && marks_fit sets t.ecb
     && not (knows t.name above)

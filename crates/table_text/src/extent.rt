@@ -6,8 +6,7 @@ ghost use Rattle.cache.specs.declared.useful.Useful.{Useful};
 ghost use Rattle.table.specs.Tables.{tasks_of, accesses_of};
 ghost use Rattle.writing.specs.Text.{spelled};
 ghost use Rattle.writing.specs.Marks.{useful_text};
-ghost use Rattle.table_text.specs.TableText.{head_fields, task_fields, access_fields, line_text, tasks_text, accesses_text, table_text};
-ghost use Rattle.table_text.specs.Delivered.{NamesTasks};
+ghost use Rattle.table_text.specs.TableText.{head_fields, task_fields, access_fields, line_text, tasks_text, accesses_text, table_text, NamesTasks};
 
 use cache::useful::Form;
 use table::Table;

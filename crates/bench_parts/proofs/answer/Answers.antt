@@ -6,5 +6,5 @@ use Rattle.bench_parts.proofs.answer.Goals as goal
 
 pub loop-preserved : goal.loop-preserved
 loop-preserved c =
-    let held = rows-hold _ _ c.responses-rows.ensures 0 0 (omega arith) c.args.accepted.accepted.some in
+    let held = rows-hold _ _ c.responses-rows.ensures.rows 0 0 (omega arith) c.args.accepted.accepted.some in
     rw add-one (c.ticks-first.ensures ∙ ap ticks_of held)

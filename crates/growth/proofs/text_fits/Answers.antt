@@ -3,7 +3,7 @@ use Rattle.std.proofs.Common.{ℕ, ◌≤◌}
 use Rattle.table.specs.declared.Table.{Table}
 use Rattle.table.specs.Tables.{accesses_of}
 use Rattle.table.specs.Accepted.{AcceptedTable}
-use Rattle.table_text.specs.Delivered.{NamesTasks}
+use Rattle.table_text.specs.TableText.{NamesTasks}
 use Rattle.table_text.proofs.Lengths.{accesses-known}
 use Rattle.growth.specs.Scaling.{scaled_by}
 use Rattle.growth.proofs.ScaledTexts.{readable-scalable}

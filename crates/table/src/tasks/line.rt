@@ -1,8 +1,10 @@
 // A task line.
-ghost use Rattle.std.specs.Prelude.{◌≡◌, false, ◌&&◌, MatchOption, ◌==◌};
+ghost use Rattle.std.specs.Prelude.{◌≡◌, false, not, ◌&&◌, [], ◌∷◌, MatchOption, ◌==◌};
 ghost use Rattle.table.specs.Cut.{field_count};
 ghost use Rattle.table.specs.Rows.{unless_fault};
-ghost use Rattle.table.specs.TaskLine.{AreTaskFields, read_times, times_of, times_in_range, times_in_order, task_rows, task_said, blocking_said};
+ghost use Rattle.table.specs.Fields.{is_number, number};
+ghost use Rattle.table.specs.declared.refusals.Reason.TheVariants.{Number};
+ghost use Rattle.table.specs.TaskLine.{AreTaskFields, times_in_range, times_in_order, task_rows, task_said, blocking_said};
 
 use crate::fields;
 use crate::refusals::Reason;
@@ -45,31 +47,19 @@ fn cut(line: &[u8]) -> Option<TaskFields<'_>>
     if fields.is_done() { Some(cut) } else { None }
 }
 
-// C, T, D and J.
-#[derive(Clone, Copy)]
-struct Times {
-    work: Ticks,
-    period: Ticks,
-    deadline: Ticks,
-    jitter: Ticks,
+// What a field says in ticks, if it is a number.
+#[tactic(auto, unfolding(crate::specs::Rows::unless_fault))]
+fn read_ticks(field: &[u8]) -> Result<Ticks, Reason>
+    ensures { result ≡ unless_fault ((not (is_number field.now), Number) ∷ []) (record { 0 = number field.now }) }
+{
+    let ticks = fields::read_number(field).ok_or(Reason::Number)?;
+    Ok(Ticks(ticks))
 }
 
-impl Times {
-    #[tactic(auto, unfolding(crate::specs::TaskLine::read_times))]
-    fn read(work: &[u8], period: &[u8], deadline: &[u8], jitter: &[u8]) -> Option<Times>
-        ensures { result ≡ read_times work.now period.now deadline.now jitter.now }
-    {
-        Some(Times {
-            work: Ticks(fields::read_number(work)?),
-            period: Ticks(fields::read_number(period)?),
-            deadline: Ticks(fields::read_number(deadline)?),
-            jitter: Ticks(fields::read_number(jitter)?),
-        })
-    }
-
+impl Task {
     #[tactic(auto, unfolding(crate::specs::TaskLine::times_in_range))]
-    fn in_range(self) -> bool
-        ensures { result ≡ times_in_range self }
+    fn times_in_range(&self) -> bool
+        ensures { result ≡ times_in_range self.now }
     {
         fields::is_within(1, Ticks::LONGEST, self.work.0)
             & fields::is_within(1, Ticks::LONGEST, self.period.0)
@@ -78,35 +68,21 @@ impl Times {
     }
 
     #[tactic(auto, unfolding(crate::specs::TaskLine::times_in_order))]
-    fn in_order(self) -> bool
-        ensures { result ≡ times_in_order self }
+    fn times_in_order(&self) -> bool
+        ensures { result ≡ times_in_order self.now }
     {
         (self.jitter.0 <= self.deadline.0) & (self.deadline.0 <= self.period.0)
-    }
-}
-
-impl Task {
-    fn times(&self) -> Times
-        ensures { result ≡ times_of self.now }
-    {
-        Times {
-            work: self.work,
-            period: self.period,
-            deadline: self.deadline,
-            jitter: self.jitter,
-        }
     }
 
     // Whether a line can say its times: each is in its range, and they are in their order.
     pub fn is_timely(&self) -> bool
-        ensures { result ≡ (times_in_range (times_of self.now) && times_in_order (times_of self.now)) }
+        ensures { result ≡ (times_in_range self.now && times_in_order self.now) }
     {
-        let times = self.times();
-        times.in_range() & times.in_order()
+        self.times_in_range() & self.times_in_order()
     }
 
     // The task that a line says in a table of this form with so many cache sets, below the tasks above it, and the line's B; or its first refusal.
-    #[tactic(auto, unfolding(crate::specs::TaskLine::task_rows, crate::specs::TaskLine::task_said, crate::specs::TaskLine::read_times, crate::specs::Rows::unless_fault))]
+    #[tactic(auto, unfolding(crate::specs::TaskLine::task_rows, crate::specs::TaskLine::task_said, crate::specs::TaskLine::times_in_range, crate::specs::TaskLine::times_in_order, crate::specs::Rows::unless_fault))]
     pub fn read(line: &[u8], form: Form, sets: u64, above: &[Task]) -> Result<(Task, Ticks), Reason>
         ensures { result ≡ unless_fault (task_rows form sets above.now line.now) (task_said form sets line.now, blocking_said line.now) }
     {
@@ -114,34 +90,30 @@ impl Task {
         if !fields::is_name(fields.name) {
             return Err(Reason::Name);
         }
-        let name = Name::of(fields.name);
-        let times = Times::read(fields.work, fields.period, fields.deadline, fields.jitter).ok_or(
-            Reason::Number,
-        )?;
-        let blocking = fields::read_number(fields.blocking).ok_or(Reason::Number)?;
-        if !(times.in_range() & fields::is_within(0, Ticks::LONGEST, blocking)) {
+        let mut task = Task {
+            name: Name::of(fields.name),
+            work: read_ticks(fields.work)?,
+            period: read_ticks(fields.period)?,
+            deadline: read_ticks(fields.deadline)?,
+            jitter: read_ticks(fields.jitter)?,
+            ucb: Useful::NONE,
+            ecb: CacheSet::EMPTY,
+        };
+        let blocking = read_ticks(fields.blocking)?;
+        if !(task.times_in_range() & fields::is_within(0, Ticks::LONGEST, blocking.0)) {
             return Err(Reason::Range);
         }
-        let ucb = Useful::from_field(fields.ucb, sets, form).ok_or(Reason::Marks)?;
-        let ecb = CacheSet::from_field(fields.ecb, sets).ok_or(Reason::Marks)?;
+        task.ucb = Useful::from_field(fields.ucb, sets, form).ok_or(Reason::Marks)?;
+        task.ecb = CacheSet::from_field(fields.ecb, sets).ok_or(Reason::Marks)?;
         if !useful::is_within(fields.ucb, form) {
             return Err(Reason::TooManyBlocks);
         }
-        if !times.in_order() {
+        if !task.times_in_order() {
             return Err(Reason::Order);
         }
-        if is_known(name, above) {
+        if is_known(task.name, above) {
             return Err(Reason::KnownName);
         }
-        let task = Task {
-            name,
-            work: times.work,
-            period: times.period,
-            deadline: times.deadline,
-            jitter: times.jitter,
-            ucb,
-            ecb,
-        };
-        Ok((task, Ticks(blocking)))
+        Ok((task, blocking))
     }
 }

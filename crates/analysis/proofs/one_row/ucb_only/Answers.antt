@@ -1,5 +1,5 @@
 -- `one_row::ucb_only` meets its contract.
-use Rattle.std.proofs.Common.{ℕ, ◌≡◌, ◌+◌, ◌-◌, ap, ap₂, ◌∙◌, arith}
+use Rattle.std.proofs.Common.{ℕ, ◌≡◌, ◌+◌, ◌-◌, sym, ap, ap₂, ◌∙◌, arith}
 use Rattle.cache.specs.Counts.{total}
 use Rattle.cache.specs.Levels.{counts}
 use Rattle.search.specs.Positions.{between}
@@ -7,6 +7,7 @@ use Rattle.table.specs.declared.tasks.Task.{Task}
 use Rattle.analysis.specs.declared.costs.Charge.TheVariants.{Victim}
 use Rattle.analysis.specs.Gather.{largest_from}
 use Rattle.analysis.specs.Costs.{ucb_of}
+use Rattle.analysis.proofs.CostLaws.{largest-ucb}
 use Rattle.analysis.proofs.HitLaws.{hit-none, hit-front, largest-from}
 use Rattle.analysis.proofs.OneRowLaws.{charged-none, tells-front}
 use Rattle.analysis.proofs.one_row.ucb_only.Goals as goal
@@ -29,6 +30,6 @@ loop-j-preserved c =
     c.larger-most.ensures ∙ hit-front F (j + 1) (a.pending.i + 1) _ _ (omega arith) own (rw (← last) at h.most) in
     record {
       charged = tells-front a.pending.i c.loop-j.j j (omega (arith, c.args.pending.accepted.few, c.args.pending.held)) (omega arith) _
-          (ap Victim (most ∙ largest-from F (j + 1) (a.pending.i + 1) (omega arith))) h.charged;
+          (ap Victim (most ∙ largest-from F (j + 1) (a.pending.i + 1) (omega arith)) ∙ sym (largest-ucb a.pending.table.now a.pending.i j)) h.charged;
       most = most;
     }

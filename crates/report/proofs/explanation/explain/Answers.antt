@@ -10,6 +10,7 @@ use Rattle.analysis.specs.Needs.{need_of}
 use Rattle.report.proofs.ExplanationParts.{timed}
 use Rattle.report.proofs.Ranges.{Needed, needed, explanation-is}
 use Rattle.report.proofs.ExplanationLengths.{explanation-short}
+use Rattle.report.proofs.Truth.{adds-up}
 use Rattle.report.specs.Explanation.{need_line, reason_lines, explanation_of}
 use Rattle.report.proofs.explanation.explain.Goals as goal
 
@@ -41,10 +42,13 @@ pub write_reasons-requires-clause-room : goal.write_reasons-requires-clause-room
 write_reasons-requires-clause-room c =
     omega (arith, ap length c.new-draft.ensures, ap length c.write_need_line.ensures, length-append {A = ℕ}, fits c.args.pending.accepted c.args.pending.held c.args.method c.task.ensures c.explained-needed.ensures)
 
-pub returns : goal.returns
-returns c =
+pub returns-clause-delivers : goal.returns-clause-delivers
+returns-clause-delivers c =
     let text = text_is c.args.pending.accepted c.args.pending.held c.args.method c.task.ensures c.explained-needed.ensures in
     record {
       delivered = rw (c.text.ensures, c.write_reasons.ensures, c.write_need_line.ensures, c.new-draft.ensures, text) at c.deliver.ensures;
       short = explanation-short c.args.pending.table.now c.args.pending.accepted c.args.pending.i c.args.pending.held c.args.method;
     }
+
+pub returns-clause-adds_up : goal.returns-clause-adds_up
+returns-clause-adds_up c = adds-up c.args.pending.table.now c.args.pending.accepted c.args.pending.i c.args.pending.held c.args.method

@@ -1,8 +1,8 @@
 -- `useful::Useful::joined_size_in` meets its contract.
-use Rattle.std.proofs.Common.{◌≡◌, ℕ, sym, ap, ap₂, ◌∙◌, arith}
+use Rattle.std.proofs.Common.{◌≡◌, ℕ, sym, ap, ap₂, ◌∙◌}
 use Rattle.cache.specs.Sets.{Set, ◌∪◌, ◌∩◌, size}
 use Rattle.cache.specs.Words.{members}
-use Rattle.cache.specs.Counts.{Counts, of_set, ◌⊕◌, capped, ◌on◌, total}
+use Rattle.cache.specs.Counts.{Counts, ◌⊕◌, capped, ◌on◌, total}
 use Rattle.cache.specs.Levels.{heights, level}
 use Rattle.cache.specs.declared.useful.Useful.{Useful}
 use Rattle.cache.proofs.CountLaws.{one-way-union, one-way-shared}

@@ -1,9 +1,6 @@
 -- `useful::Useful::shared_size` meets its contract.
-use Rattle.std.proofs.Common.{◌≡◌, true, sym, ap, ◌∙◌, arith}
-use Rattle.std.proofs.lemmas.Bool.{not-false}
-use Rattle.cache.specs.Words.{members}
-use Rattle.cache.specs.Counts.{total, ◌on◌}
-use Rattle.cache.specs.Levels.{heights}
+use Rattle.std.proofs.Common.{◌≡◌, sym, ap, ◌∙◌, arith}
+use Rattle.cache.specs.Counts.{total}
 use Rattle.cache.proofs.LevelLaws.{covered-none, covered-more}
 use Rattle.cache.proofs.useful.Useful.shared_size.Goals as goal
 
