@@ -10,7 +10,7 @@ ROOT = os.path.join(os.path.dirname(os.path.abspath(__file__)), "..")
 # 25 is told of table values alone, which Rattle code hands over: no wrapper has a function that takes one
 OF_VALUES = {"NoText"}
 # those of a call, and not of a text: the command's words for them stand where it reads what it is asked for
-OF_CALLS = {"Method", "Position", "ShortBuffer"}
+OF_CALLS = {"Method", "Position", "ShortBuffer", "ListLine", "ListName"}
 
 # a limit's constant, where the code has it, and the places that tell its number
 LIMITS = [
@@ -23,6 +23,7 @@ LIMITS = [
     ("LONGEST_TEXT", "crates/table/src/lib.rt", ["docs/RULES.md", "docs/LIBRARY.md", "bindings/c/crpd.h", "bindings/rust/src/lib.rs", "command/src/input.rs"]),
     ("ROOM", "crates/writing/src/writer.rt", ["docs/LIBRARY.md", "bindings/c/crpd.h", "bindings/rust/src/lib.rs"]),
     ("LONGEST_EXPLANATION", "crates/report/src/explanation.rt", ["docs/RULES.md", "docs/LIBRARY.md", "bindings/c/crpd.h", "bindings/rust/src/lib.rs"]),
+    ("LONGEST_FINDINGS", "crates/claims/src/lib.rt", ["docs/RULES.md", "docs/LIBRARY.md", "bindings/c/crpd.h", "bindings/rust/src/lib.rs"]),
     ("MOST", "crates/growth/src/scaling.rt", ["docs/RULES.md", "bindings/c/crpd.h"]),
 ]
 

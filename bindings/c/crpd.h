@@ -3,8 +3,8 @@
  * Every function takes every text, number and buffer, and answers one number. Below 2^32 it is the
  * answer; from 2^32 on it is a refusal, whose number and line the functions at the end take out. The
  * refusals of a text are 1 to 11 and 17, 15 and 16 where it has access lines, and 18 where line 1 names
- * the ways; 12 and 13 are those of a method and a position, and 14 that of a buffer. docs/RULES.md says
- * when each is given.
+ * the ways; 12 and 13 are those of a method and a position, 19 and 20 those of a partner's list, and 14 that
+ * of a buffer. docs/RULES.md says when each is given.
  *
  * No function keeps anything from one call to the next: the answer, and every byte that is written, come
  * from the text, the numbers and the length of the buffer alone. So calls may be made in any order and by
@@ -21,6 +21,9 @@
 
 /* No explanation is longer. */
 #define CRPD_EXPLANATION_MOST 1348
+
+/* No text of what is found of a list is longer. */
+#define CRPD_FINDINGS_MOST 640
 
 /* No accepted table text is longer, access lines and all, and neither is that of a scaled table. */
 #define CRPD_TABLE_MOST 16384
@@ -55,6 +58,12 @@ uint64_t crpd_growth(const uint8_t *text, size_t text_len, uint64_t method);
  * of the table as it is. CRPD_TABLE_MOST bytes are always enough. What follows it in out, and all of out where it is
  * refused, stays as it was. */
 uint64_t crpd_scaled(const uint8_t *text, size_t text_len, uint64_t method, uint8_t *out, size_t out_len);
+
+/* Checks a partner's list of responses, lines `R`, name, number or `-` in the table's order, under a method (0 to 5): the
+ * length of what is found, which then stands at the start of out: a line `C` for each task with its name and `ok`, `open`
+ * or `bad`. A number that is ok is never below what crpd_answer gives; that number itself is never bad, and ok where at
+ * most one access may block the task. What follows it in out, and all of out where it is refused, stays as it was. */
+uint64_t crpd_check(const uint8_t *text, size_t text_len, const uint8_t *list, size_t list_len, uint64_t method, uint8_t *out, size_t out_len);
 
 /* As crpd_report, for what the program crpd-report prints: the report, or the line of the text's refusal. Its
  * only refusal is 14, where out is too short. */

@@ -1,8 +1,8 @@
 /* Prints the response of every task of a table under every method, then the report, and then why combined
  * (method 5) answers for the last task what it does, and after that the table itself, read and written again.
  * Then comes how much growth is left under every method, and the table with the growth that combined leaves.
- * The table is read from standard input. Last comes the same explanation for a task that an access to a shared
- * device may block. */
+ * The table is read from standard input. Then comes the same explanation for a task that an access to a shared
+ * device may block, and last what is found of a list of responses of that table. */
 #include <stdio.h>
 
 #include "crpd.h"
@@ -13,6 +13,11 @@ static const char shared[] = "K\t4\t1\n"
                              "T\tb\t2\t40\t40\t0\t0\t0\t0\n"
                              "T\tc\t3\t60\t60\t0\t0\t3\t3\n"
                              "A\tc\tb\t2\t3\n";
+
+/* Responses that a partner claims of these tasks: b needs 7 ticks, and so far nothing is said of c. */
+static const char claimed[] = "R\ta\t1\n"
+                              "R\tb\t6\n"
+                              "R\tc\t-\n";
 
 static int refused(uint64_t answer) {
     fprintf(stderr, "refused: number %u, line %u\n", crpd_refusal_number(answer), crpd_refusal_line(answer));
@@ -60,6 +65,10 @@ int main(void) {
         return refused(written);
     fwrite(out, 1, (size_t)written, stdout);
     written = crpd_explain((const uint8_t *)shared, sizeof shared - 1, 5, 1, out, sizeof out);
+    if (crpd_is_refusal(written))
+        return refused(written);
+    fwrite(out, 1, (size_t)written, stdout);
+    written = crpd_check((const uint8_t *)shared, sizeof shared - 1, (const uint8_t *)claimed, sizeof claimed - 1, 5, out, sizeof out);
     if (crpd_is_refusal(written))
         return refused(written);
     fwrite(out, 1, (size_t)written, stdout);

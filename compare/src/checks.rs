@@ -2,6 +2,7 @@
 
 pub mod growths;
 pub mod laws;
+pub mod lists;
 pub mod pool;
 pub mod sets;
 pub mod sums;

@@ -6,6 +6,7 @@ mod counted;
 mod explained;
 mod growths;
 mod laws;
+mod lists;
 mod pool;
 mod reasons;
 mod spelled;
@@ -15,7 +16,7 @@ pub use reasons::reasons;
 
 use crate::checks::pool::{Call, Made};
 use crate::model::value::Value;
-use crate::model::{Growths, Outcome, Row, Table, Task, Writing};
+use crate::model::{Checks, Growths, Outcome, Row, Table, Task, Writing};
 use std::collections::{BTreeMap, BTreeSet};
 
 pub type Names = BTreeSet<String>;
@@ -121,7 +122,7 @@ impl Classes {
     /// With every class that has to be reached, besides the plans of spoiled texts.
     pub fn new() -> Classes {
         let mut classes = Classes::default();
-        for number in (1..=18).chain([25]) {
+        for number in (1..=20).chain([25]) {
             classes.require(&refusal_name(number));
         }
         let names = OF_ASKING.into_iter().chain(OF_WRITING);
@@ -138,6 +139,7 @@ impl Classes {
             growths::all(),
             pool::all(),
             laws::all(),
+            lists::all(),
         ];
         for name in further.iter().flatten() {
             classes.require(name);
@@ -226,6 +228,26 @@ impl Classes {
     /// By a table, and the same with lines changed that do not matter to the task at `i`.
     pub fn reach_change(&mut self, before: &Outcome, after: &Outcome, i: usize) {
         for name in laws::reached_by_change(before, after, i) {
+            self.reach(&name);
+        }
+    }
+
+    /// By a list that was checked by all methods.
+    pub fn reach_list(&mut self, outcome: &Outcome, list: &[u8], checks: &Checks) {
+        for name in lists::reached(outcome, list, checks) {
+            self.reach(&name);
+        }
+    }
+
+    pub fn reach_list_in_rooms(&mut self, list: &[u8], outcome: &Outcome) {
+        for name in lists::reached_in_rooms(list, &outcome.checks()) {
+            self.reach(&name);
+        }
+    }
+
+    /// By a list that would be refused with this number, beside a refused text.
+    pub fn reach_list_beside_refused(&mut self, number: u64) {
+        for name in lists::reached_beside_refused(number) {
             self.reach(&name);
         }
     }

@@ -3,8 +3,10 @@
 mod accesses;
 mod altered;
 mod fields;
+mod lists;
 
 pub use altered::{about_longest, altered};
+pub use lists::{list_plans, ListPlan, SpoiledList};
 
 use crate::generate::{text_of, Lines, Table, BASES};
 use crate::model::{Form, Refusal, ACCESSES_MOST, TASKS_MOST, TEXT_MOST};

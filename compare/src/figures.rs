@@ -3,6 +3,7 @@
 mod accesses;
 mod counted;
 mod growths;
+mod lists;
 
 pub use counted::{longest_explanation as longest_counted_explanation, longest_with_counts};
 
@@ -29,6 +30,12 @@ pub enum Expected {
     Growths([u64; 6]),
     /// Method and the scaled table's text.
     Scaled(u64, Vec<u8>),
+    /// Method, a partner's list and its words.
+    Words(u64, Vec<u8>, Vec<u8>),
+    /// Method, a partner's list and the length of its words.
+    WordsLength(u64, Vec<u8>, usize),
+    /// Method and a partner's list.
+    ListRefused(u64, Vec<u8>, Refusal),
 }
 
 /// Room for every report, every explanation and every table.
@@ -64,6 +71,12 @@ impl Figure {
                 Err(_) => Vec::new(),
             };
             [model, written(|out| library::rewrite(text, out))]
+        };
+        let words = |method: u64, list: &[u8]| {
+            let checked = outcome.checks().check(list, method);
+            let words = checked.map_or(String::new(), |checked| checked.text);
+            let given = written(|out| library::check(text, list, method, out));
+            [words.into_bytes(), given]
         };
         let agree = match &self.expected {
             Expected::Response(method, position, ticks) => {
@@ -101,6 +114,17 @@ impl Figure {
                 let given = written(|out| library::scaled(text, *method, out));
                 let scaled = outcome.growths().scaled(*method);
                 [scaled.as_ref() == Ok(expected), given == *expected]
+            }
+            Expected::Words(method, list, expected) => {
+                words(*method, list).map(|words| words == *expected)
+            }
+            Expected::WordsLength(method, list, expected) => {
+                words(*method, list).map(|words| words.len() == *expected)
+            }
+            Expected::ListRefused(method, list, refusal) => {
+                let checked = outcome.checks().check(list, *method);
+                let given = library::check(text, list, *method, &mut [0; ROOMY]);
+                [checked == Err(*refusal), given == refusal.code()]
             }
         };
         [("model", agree[0]), ("library", agree[1])]
@@ -268,6 +292,7 @@ pub fn all() -> Vec<Figure> {
     figures.extend(accesses::all());
     figures.extend(counted::all());
     figures.extend(growths::all());
+    figures.extend(lists::all());
     figures
 }
 

@@ -6,6 +6,7 @@ mod builds;
 mod families;
 mod growing;
 mod keeping;
+mod lists;
 mod measuring;
 mod published;
 
@@ -20,6 +21,7 @@ pub use growing::{
     by_either_union, finely_in_time, just_in_time, longest_counted, nearly_refused, nearly_too_long,
 };
 pub use keeping::kept;
+pub use lists::{crossing, list};
 pub use measuring::{
     any_cache_sets, any_counts, measuring_counted, measuring_evicting, measuring_useful,
 };

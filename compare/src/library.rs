@@ -2,9 +2,11 @@
 //! place.
 
 #[cfg(not(feature = "library"))]
-pub use crate::plain::{answer, explain, growth, print, report, rewrite, scaled, write_value};
+pub use crate::plain::{
+    answer, check, explain, growth, print, report, rewrite, scaled, write_value,
+};
 #[cfg(feature = "library")]
-pub use linked::{answer, explain, growth, print, report, rewrite, scaled};
+pub use linked::{answer, check, explain, growth, print, report, rewrite, scaled};
 #[cfg(feature = "values")]
 pub use values::write_value;
 
@@ -35,6 +37,15 @@ mod linked {
         fn crpd_scaled(
             text: *const u8,
             text_len: usize,
+            method: u64,
+            out: *mut u8,
+            out_len: usize,
+        ) -> u64;
+        fn crpd_check(
+            text: *const u8,
+            text_len: usize,
+            list: *const u8,
+            list_len: usize,
             method: u64,
             out: *mut u8,
             out_len: usize,
@@ -76,6 +87,13 @@ mod linked {
         let (start, room) = (out.as_mut_ptr(), out.len());
         // SAFETY: each pointer and length are of one slice that lives over the call
         unsafe { crpd_scaled(text.as_ptr(), text.len(), method, start, room) }
+    }
+
+    pub fn check(text: &[u8], list: &[u8], method: u64, out: &mut [u8]) -> u64 {
+        let (from, length) = (list.as_ptr(), list.len());
+        let (start, room) = (out.as_mut_ptr(), out.len());
+        // SAFETY: each pointer and length are of one slice that lives over the call
+        unsafe { crpd_check(text.as_ptr(), text.len(), from, length, method, start, room) }
     }
 }
 

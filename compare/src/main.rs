@@ -17,6 +17,8 @@ use crpd_compare::{damage, figures, library, values};
 mod growths;
 #[path = "main/laws.rs"]
 mod laws;
+#[path = "main/lists.rs"]
+mod lists;
 #[path = "main/pool.rs"]
 mod pool;
 #[path = "main/sums.rs"]
@@ -110,6 +112,10 @@ impl Comparison {
                     self.lines_more();
                     self.lines_changed();
                 }
+                Part::Checking => {
+                    self.bounds(&valid);
+                    self.refused_lists(&valid, &[b"K\n".to_vec()]);
+                }
             }
             self.close(self.order.clone());
             return;
@@ -137,6 +143,9 @@ impl Comparison {
         self.pool(&valid, &refused);
         self.lines_more();
         self.lines_changed();
+        self.bounds(&valid);
+        self.refused_lists(&valid, &refused);
+        self.list_rooms(&valid, &refused);
         self.close(self.order.clone());
         if self.options.percent == 100 {
             self.class_counts();

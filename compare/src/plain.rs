@@ -2,11 +2,13 @@
 //! in for it where it is not linked.
 
 mod blocks;
+mod check;
 mod explain;
 mod growth;
 mod reading;
 mod table;
 
+pub use check::check;
 pub use explain::{explain, explain_within};
 pub use growth::{growth, scaled};
 pub use reading::read;

@@ -27,16 +27,51 @@ pub fn shrink(text: &[u8], shows: &dyn Fn(&[u8]) -> bool) -> Vec<u8> {
     }
 }
 
+/// The same of a text and a list that has a line for each of its tasks: such a line goes with the task's.
+pub fn shrink_both(
+    text: &[u8],
+    list: &[u8],
+    shows: &dyn Fn(&[u8], &[u8]) -> bool,
+) -> (Vec<u8>, Vec<u8>) {
+    let (mut text, mut list) = (text.to_vec(), list.to_vec());
+    loop {
+        let before = (text.clone(), list.clone());
+        let mut at = 0;
+        while at < lines_of(&list).len() {
+            let smaller = (without_line(&text, at + 1), without_line(&list, at));
+            if shows(&smaller.0, &smaller.1) {
+                (text, list) = smaller;
+            } else {
+                at += 1;
+            }
+        }
+        list = shrink(&list, &|list| shows(&text, list));
+        text = shrink(&text, &|text| shows(text, &list));
+        if (&text, &list) == (&before.0, &before.1) {
+            return before;
+        }
+    }
+}
+
+fn lines_of(text: &[u8]) -> Vec<&[u8]> {
+    text.split_inclusive(|byte| *byte == b'\n').collect()
+}
+
+fn without_line(text: &[u8], at: usize) -> Vec<u8> {
+    let lines = lines_of(text).into_iter().enumerate();
+    let kept = lines.filter(|(place, _)| *place != at);
+    kept.flat_map(|(_, line)| line.to_vec()).collect()
+}
+
 type Shows<'a> = &'a dyn Fn(&[u8]) -> bool;
 
 fn lines_dropped(mut text: Vec<u8>, shows: Shows) -> Vec<u8> {
     let mut at = 0;
     loop {
-        let lines: Vec<&[u8]> = text.split_inclusive(|byte| *byte == b'\n').collect();
-        if at >= lines.len() {
+        if at >= lines_of(&text).len() {
             return text;
         }
-        let smaller = [lines[..at].concat(), lines[at + 1..].concat()].concat();
+        let smaller = without_line(&text, at);
         if shows(&smaller) {
             text = smaller;
         } else {
@@ -308,6 +343,19 @@ mod tests {
         assert_eq!(least.access_count(), 1);
         assert_eq!(least.access(0)[..3], [0, 0, 3]);
         assert!(least.access(0)[3..].iter().all(|word| *word == 0));
+    }
+
+    #[test]
+    fn what_shows_the_mismatch_is_left_of_a_text_and_a_list() {
+        let list = b"R\ta\t7\nR\tb\t77\nR\tc\t8\n";
+        let shows = |text: &[u8], list: &[u8]| {
+            let is_b = |line: &[u8]| line.get(2) == Some(&b'b');
+            let places = [text, list].map(|text| lines_of(text).into_iter().position(is_b));
+            matches!(places, [Some(task), Some(bound)] if task == bound + 1)
+        };
+        let (text, list) = shrink_both(&table_m(), list, &shows);
+        assert_eq!(lines_of(&text).len(), 2);
+        assert_eq!(lines_of(&list).len(), 1);
     }
 
     #[test]

@@ -1,8 +1,8 @@
 // What the public functions of `analysis` answer.
-use crate::blockers::{longest, Blockers, Blocking};
+use crate::blockers::{are_several, longest, Blockers, Blocking};
 use crate::carried::{weigh_access, weigh_row, Column, Terms};
 use crate::costs::{cleared, term, Charge, Hit, Single};
-use crate::{blocked_row, need, one_row, respond, rows, Method};
+use crate::{blocked_row, covering, need, one_row, respond, rows, Method};
 use cache::units::{Reloads, Ticks};
 use table::accesses::Access;
 use table::accepted::{Accepted, Pending};
@@ -161,6 +161,16 @@ fn answer(name: &str, args: &mut Args) -> String {
             let i = args.size();
             let told = longest(table.accesses(), i);
             show(told.map(|n| n < table.access_count && table.accesses[n].may_block(i)))
+        }
+        "are_several" => {
+            let table = tables::read(args);
+            show(are_several(table.accesses(), args.size()))
+        }
+        "is_covered" => {
+            let table = tables::read(args);
+            let (method, i) = (single(args), args.size());
+            let time = Ticks(args.number());
+            show(covering::is_covered(pending(&table, i), method, time))
         }
         "blocking" => {
             let table = tables::read(args);

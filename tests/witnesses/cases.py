@@ -4,6 +4,7 @@ import random
 FULL = [2**64 - 1] * 4
 SETS = [[0] * 4, [1, 0, 0, 0], [0, 2, 0, 0], [0, 0, 4, 0], [0, 0, 0, 8], [1, 2, 4, 8], [3, 5, 9, 17], [7, 7, 7, 7], FULL]
 METHODS = range(6)
+TIMES = (0, 1, *range(3, 24), 30, 41, 60, 250000000)
 
 
 def text(bytes_or_str):
@@ -309,6 +310,7 @@ def of_analysis():
             found += ["respond %s %d %d" % (said, m, i) for m in METHODS] + ["explained %s %d %d" % (said, m, i) for m in METHODS]
             found += ["evictors %s %d" % (said, i), "weigh_row %s %d" % (said, i), "longest %s %d" % (said, i), "blocking %s %d" % (said, i), "blockers %s %d" % (said, i), "cleared %s %d" % (said, i), "term %s %d %d" % (said, i, draw.choice([0, 1, 3, 256]))]
             found += ["charged %s %d %d" % (said, m, i) for m in (0, 1, 2, 4)]
+            found += ["are_several %s %d" % (said, i)] + ["is_covered %s %d %d %d" % (said, m, i, time) for m in range(5) for time in TIMES[::4]]
             may = [k for k, line in enumerate([x for x in it.split("\n") if x.startswith("A")]) if blocks(it, line, i)]
             for k in [*may, accesses]:
                 found += ["%s %s %d %d %d" % (call, said, m, i, k) for m in range(5) for call in ("join", "terms")] + ["weigh_access %s %d %d" % (said, i, k)]
@@ -419,6 +421,38 @@ def of_growth():
     return found
 
 
+TABLE_P = head(4, 0) + "T\ta\t2\t5\t5\t0\t0\t0\t0\nT\tb\t3\t8\t8\t%d\t0\t0\t0\n"
+# two accesses may block b, and its own number is left open
+TABLE_Y = head(4, 1) + "T\ta\t1\t5\t5\t0\t0\t0\tf\nT\tb\t1\t20\t20\t0\t0\t0\t0\nT\tc\t1\t100\t100\t0\t0\t0\t0\nA\tc\tb\t4\t0\nA\tc\tb\t1\t3\n"
+
+
+def judged(seed, count):
+    """Tables in which claims are judged."""
+    return [(TABLE_P % 0, 2), (TABLE_P % 2, 2), (TABLE_Y, 3), (THREE, 3), (THREE + "A\tc\ta\t5\t3\n", 3), *several_accesses(), *tables(seed, count)]
+
+
+def lists(n):
+    """Lists for a table whose n tasks are called a, b, ..: good ones, and each way in which a line is not."""
+    good = ["R\t%s\t%d\n" % (name(k), 5 + 2 * k) for k in range(n)]
+    found = ["".join(good), "".join(good)[:-1], "".join(good).replace("\n", "\r\n"), "".join(good) + "R\tzz\t5\n", "".join(good) + "R\tzz\n", "".join(good) + "R\tzz\t5", "".join(good) + "\n", "", "\n", "R"]
+    found += ["".join(good[:k]) for k in range(n)] + ["".join(reversed(good)), "".join("R\t%s\t-\n" % name(k) for k in range(n))]
+    bad = ["", "R\n", "r\ta\t5\n", "R\ta\n", "R\ta\t5\t\n", "R\ta\t5\t6\n", "R\t\t5\n", "R\tA\t5\n", "R\tabcdefghijklm\t5\n", "R\tz\t5\n", "R\ta\t05\n", "R\ta\t0\n", "R\ta\t--\n", "R\ta\t\n", "R\ta\t-5\n", "R\ta\t999999999\n", "R\ta\t1000000000\n", "R\tz\tx\n", "R\tz\t5"]
+    for k in range(n):
+        found += ["".join(good[:k]) + it.replace("\ta\t", "\t%s\t" % name(k)) + "".join(good[k + 1 :]) for it in bad]
+    return found
+
+
+def of_claims():
+    found, draw = [], random.Random(17)
+    for it, n in judged(18, 40):
+        said = text(it)
+        found += ["judge %s %d %d %s" % (said, m, i, claim) for m in METHODS for i in range(n) for claim in (*TIMES[::2], "-")]
+        found += ["write %s %d %s %d" % (said, m, " ".join(str(draw.choice([5, 7, 9, 13, 20, 40, "-"])) for _ in range(n)), size) for m in METHODS for size in (0, 15, 640)]
+    for it, n in [(TABLE_P % 0, 2), (THREE, 3), (many_tasks(32), 32)]:
+        found += ["read %s %s" % (text(it), text(one)) for one in (lists(n) if n < 32 else lists(n)[:30])]
+    return found
+
+
 def operations(seed, count):
     """Texts for whole operations."""
     return [THREE, THREE + "A\tc\ta\t5\t3\n", *(it for it, _ in tables(seed, count)), *texts()[::23], "", "a", "K\t4\t1\n", "K\t4\t1\nU\n", THREE + "U\n"]
@@ -436,6 +470,9 @@ def of_crpd(prefix="", seed=11):
         found += ["%s%s %s %d" % (prefix, call, said, size) for call in ("report", "rewrite") for size in (0, 1, 30, 9293)]
         found += ["crpd_print %s %d" % (said, size) for size in (0, 3, 6, 2746)] if prefix else ["print %s" % said]
         found += ["%srewrite %s %d" % (prefix, said, size) for size in (len(it) - 1, len(it), len(it) + 1) if size >= 0]
+    for it, n in [(TABLE_P % 0, 2), (TABLE_P % 2, 2), (TABLE_Y, 3), (THREE, 3)]:
+        found += ["%scheck %s %s %d %d" % (prefix, text(it), text(one), m, size) for one in lists(n) for m in (0, 2, 5, 6) for size in (0, 15, 640)]
+    found += ["%scheck %s %s %d 640" % (prefix, text(it), text(lists(3)[0]), m) for it in ("", "a", THREE[:-1], THREE + "U\n") for m in (0, 6)]
     for it in long_texts()[:6]:
         found += ["%sreport %s 100" % (prefix, it), "%sanswer %s 6 0" % (prefix, it), "%sanswer %s 0 0" % (prefix, it)] + (["print %s" % it] if not prefix else ["crpd_print %s 100" % it])
     if not prefix:
@@ -467,6 +504,9 @@ def of_laws():
             found.append("either_way_round %s %s" % (words(a), words(b)))
             for c in sets[::2]:
                 found += ["%s %s %s %s" % (it, words(a), words(b), words(c)) for it in ("either_grouping", "shared_sizes")]
+    for it, n in judged(19, 0):
+        found += ["our_own %s %d %d" % (text(it), m, i) for m in METHODS for i in range(n)]
+        found += ["%s %s %d %d %s" % (call, text(it), m, i, claim) for call in ("figure_finding", "beside_ours") for m in METHODS for i in range(n) for claim in (5, 6, 7, 21, "-")]
     every, added = tables(13, 60) + [(THREE, 3), (THREE + "A\tc\ta\t5\t3\n", 3)], random.Random(16)
     for k, (it, n) in enumerate(every):
         said = text(it)
@@ -478,6 +518,8 @@ def of_laws():
                 found.append("in_two_tables %s %d %s %d %d" % (said, i, said, (i + 1) % n, m))
             found += ["counted %s %d %d" % (said, m, i) for m in range(5)] + ["combined %s %d" % (said, i)]
             found += ["figure_charge %s %d %d %d" % (said, m, i, j) for m in (0, 1, 2, 4) for j in range(i)]
+        found += ["our_own %s %d %d" % (said, m, i) for m in METHODS for i in range(n)]
+        found += ["%s %s %d %d %s" % (call, said, m, i, claim) for call in ("figure_finding", "beside_ours") for m in METHODS for i in range(n) for claim in (5, 11, 30, "-")]
         found += ["left %s %d" % (said, m) for m in METHODS] + ["growth_left %s %d" % (said, m) for m in (*METHODS, 6)]
         found += ["reported_twice %s %d %d" % (said, a, b) for a, b in ((2746, 2746), (0, 2746), (2746, 0), (2000, 2746))]
         found += ["answered_twice %s %d %d" % (said, m, p) for m in (0, 5, 6) for p in (0, 1, 2, 40)]

@@ -1,6 +1,6 @@
 // What the public functions of `crpd` answer.
 use crate::codes::code;
-use crate::{answer, explain, growth, print, report, rewrite, scaled, write};
+use crate::{answer, check, explain, growth, print, report, rewrite, scaled, write};
 use cache::units::Ticks;
 use search::demand::Response;
 use table::refusals::{Reason, Refusal};
@@ -48,6 +48,11 @@ fn told(name: &str, args: &mut Args) -> String {
         "scaled" => {
             let (text, method, mut out) = (args.bytes(), args.number(), args.buffer());
             filled(scaled(&text, method, &mut out), &out)
+        }
+        "check" => {
+            let (text, list, method, mut out) =
+                (args.bytes(), args.bytes(), args.number(), args.buffer());
+            filled(check(&text, &list, method, &mut out), &out)
         }
         "print" => {
             let mut out = [b'~'; 2746];

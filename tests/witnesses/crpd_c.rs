@@ -1,6 +1,6 @@
 // What the exported functions answer.
 use crate::{
-    crpd_answer, crpd_explain, crpd_growth, crpd_print, crpd_report, crpd_rewrite, crpd_scaled,
+    crpd_answer, crpd_check, crpd_explain, crpd_growth, crpd_print, crpd_report, crpd_rewrite, crpd_scaled,
 };
 
 #[path = "common.rs"]
@@ -27,6 +27,11 @@ fn answer(name: &str, args: &mut Args) -> String {
         "crpd_scaled" => {
             let (text, method, mut out) = (args.bytes(), args.number(), args.buffer());
             filled(crpd_scaled(&text, method, &mut out), &out)
+        }
+        "crpd_check" => {
+            let (text, list, method, mut out) =
+                (args.bytes(), args.bytes(), args.number(), args.buffer());
+            filled(crpd_check(&text, &list, method, &mut out), &out)
         }
         "crpd_print" => {
             let (text, mut out) = (args.bytes(), args.buffer());

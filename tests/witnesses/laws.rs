@@ -1,7 +1,7 @@
 // What the functions of `laws` answer, as far as their promises leave one answer.
 use crate::solutions::{Alone, Demand};
 use crate::{
-    added, any_order, any_worker, dominance, explanations, figures, orders, solutions, texts,
+    added, any_order, any_worker, claimed, dominance, explanations, figures, orders, solutions, texts,
 };
 use analysis::costs::Single;
 use analysis::Method;
@@ -20,7 +20,7 @@ mod tables;
 mod terms;
 use cache::units::Ticks;
 use common::{filled, show, unknown, Args};
-use terms::terms;
+use terms::{response, terms};
 
 fn set(args: &mut Args) -> CacheSet {
     CacheSet::from_words(&args.list(), 0)
@@ -129,6 +129,21 @@ fn answer(name: &str, args: &mut Args) -> String {
             let table = tables::read(args);
             let method = method(args);
             show(figures::response(pending(&table, args.size()), method))
+        }
+        "figure_finding" => {
+            let table = tables::read(args);
+            let (method, i) = (method(args), args.size());
+            show(figures::finding(pending(&table, i), method, response(args)))
+        }
+        "beside_ours" => {
+            let table = tables::read(args);
+            let (method, i) = (method(args), args.size());
+            show(claimed::beside_ours(pending(&table, i), method, response(args)))
+        }
+        "our_own" => {
+            let table = tables::read(args);
+            let (method, i) = (method(args), args.size());
+            show(claimed::our_own(pending(&table, i), method))
         }
         "figure_charge" => {
             let table = tables::read(args);

@@ -1,8 +1,8 @@
 //! Prints the response of every task of a table under every method, then the report, and then why
 //! combined (method 5) answers for the last task what it does, and after that the table itself, read and
 //! written again. Then comes how much growth is left under every method, and the table with the growth that
-//! combined leaves. The table is read from standard input. Last comes the same explanation for a task that
-//! an access to a shared device may block.
+//! combined leaves. The table is read from standard input. Then comes the same explanation for a task that
+//! an access to a shared device may block, and last what is found of a list of responses of that table.
 use std::io::{Read, Write};
 
 /// b and c share a device. While c has it, for 2 ticks, b waits, and a may pre-empt c.
@@ -11,6 +11,9 @@ const SHARED: &[u8] = b"K\t4\t1\n\
     T\tb\t2\t40\t40\t0\t0\t0\t0\n\
     T\tc\t3\t60\t60\t0\t0\t3\t3\n\
     A\tc\tb\t2\t3\n";
+
+/// Responses that a partner claims of these tasks: b needs 7 ticks, and so far nothing is said of c.
+const CLAIMED: &[u8] = b"R\ta\t1\nR\tb\t6\nR\tc\t-\n";
 
 fn main() -> std::io::Result<()> {
     let mut text = Vec::new();
@@ -56,5 +59,9 @@ fn main() -> std::io::Result<()> {
     std::io::stdout().write_all(&out[..length])?;
     let length = crpd::explain(SHARED, 5, 1, &mut out)
         .expect("it has a second task, whose explanation fits");
+    std::io::stdout().write_all(&out[..length])?;
+    let length = crpd::check(SHARED, CLAIMED, 5, &mut out)
+        .expect("the list has a line for each task, and what is found fits");
+    assert!(length <= crpd::FINDINGS_MOST);
     std::io::stdout().write_all(&out[..length])
 }

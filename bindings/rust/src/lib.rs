@@ -11,6 +11,9 @@ pub const REPORT_MOST: usize = 2746;
 /// No explanation is longer.
 pub const EXPLANATION_MOST: usize = 1348;
 
+/// No text of what is found of a list is longer.
+pub const FINDINGS_MOST: usize = 640;
+
 /// No accepted table text is longer, access lines and all, and neither is that of a scaled table.
 pub const TABLE_MOST: usize = 16384;
 
@@ -35,12 +38,22 @@ extern "C" {
         out: *mut u8,
         out_len: usize,
     ) -> u64;
+    fn crpd_check(
+        text: *const u8,
+        text_len: usize,
+        list: *const u8,
+        list_len: usize,
+        method: u64,
+        out: *mut u8,
+        out_len: usize,
+    ) -> u64;
     fn crpd_print(text: *const u8, text_len: usize, out: *mut u8, out_len: usize) -> u64;
 }
 
 /// A refusal's number, and the line that it tells (0 where it tells none). Those of a text are 1 to 11
 /// and 17, 15 and 16 where it has access lines, and 18 where it names the ways; 12 and 13 are those of a
-/// method and a position, and 14 that of a buffer. docs/RULES.md says when each is given.
+/// method and a position, 19 and 20 those of a partner's list, and 14 that of a buffer. docs/RULES.md says
+/// when each is given.
 #[derive(Clone, Copy, Debug, PartialEq, Eq)]
 pub struct Refusal {
     pub number: u32,
@@ -103,6 +116,18 @@ pub fn growth(text: &[u8], method: u64) -> Result<u32, Refusal> {
 pub fn scaled(text: &[u8], method: u64, out: &mut [u8]) -> Result<usize, Refusal> {
     let (start, room) = (out.as_mut_ptr(), out.len());
     let written = unsafe { crpd_scaled(text.as_ptr(), text.len(), method, start, room) };
+    told(written).map(|length| length as usize)
+}
+
+/// Checks a partner's list of responses, lines `R`, name, number or `-` in the table's order, under a method
+/// (0 to 5), writes what is found at the start of `out` and gives its length: a line `C` for each task with its
+/// name and `ok`, `open` or `bad`. A number that is ok is never below what `answer` gives; that number itself is
+/// never bad, and ok where at most one access may block the task. A refused list leaves `out` as it was.
+pub fn check(text: &[u8], list: &[u8], method: u64, out: &mut [u8]) -> Result<usize, Refusal> {
+    let (claims, count) = (list.as_ptr(), list.len());
+    let (start, room) = (out.as_mut_ptr(), out.len());
+    let (table, len) = (text.as_ptr(), text.len());
+    let written = unsafe { crpd_check(table, len, claims, count, method, start, room) };
     told(written).map(|length| length as usize)
 }
 

@@ -13,7 +13,7 @@ pub fn differs(check: GrowthCheck, text: &[u8]) -> Option<Difference> {
 }
 
 /// Every method up to two past the last, and numbers at the ends of what their types hold.
-fn methods() -> impl Iterator<Item = u64> {
+pub(super) fn methods() -> impl Iterator<Item = u64> {
     (0..METHODS + 2).chain(ENDS)
 }
 

@@ -24,12 +24,13 @@ pub enum Operation {
     Rewrite,
     Growth(u64),
     Scaled(u64),
+    Check(u64),
 }
 
-use Operation::{Answer, Explain, Growth, Print, Report, Rewrite, Scaled};
+use Operation::{Answer, Check, Explain, Growth, Print, Report, Rewrite, Scaled};
 
 impl Operation {
-    pub const NAMES: [&'static str; 7] = [
+    pub const NAMES: [&'static str; 8] = [
         "report",
         "print",
         "answer",
@@ -37,6 +38,7 @@ impl Operation {
         "table written again",
         "growth",
         "scaled table",
+        "words of a list",
     ];
 
     pub fn name(self) -> &'static str {
@@ -48,11 +50,12 @@ impl Operation {
             Rewrite => 4,
             Growth(_) => 5,
             Scaled(_) => 6,
+            Check(_) => 7,
         };
         Operation::NAMES[place]
     }
 
-    fn call_library(self, text: &[u8], out: &mut [u8]) -> u64 {
+    fn call_library(self, text: &[u8], list: &[u8], out: &mut [u8]) -> u64 {
         match self {
             Report => library::report(text, out),
             Print => library::print(text, out),
@@ -61,6 +64,7 @@ impl Operation {
             Rewrite => library::rewrite(text, out),
             Growth(method) => library::growth(text, method),
             Scaled(method) => library::scaled(text, method, out),
+            Check(method) => library::check(text, list, method, out),
         }
     }
 
@@ -140,18 +144,20 @@ impl Given {
 #[derive(Clone, Copy)]
 pub struct Call<'a> {
     pub text: &'a [u8],
+    /// Of bounds, which only one operation looks at.
+    pub list: &'a [u8],
     pub operation: Operation,
 }
 
 /// How many calls of a text are made.
-pub const CALLS: usize = 9;
+pub const CALLS: usize = 10;
 
 impl<'a> Call<'a> {
     /// Every operation on a text, by any method up to one past the last, and for any position up to some
     /// past the end.
-    pub fn of_each(random: &mut Random, text: &'a [u8]) -> [Call<'a>; CALLS] {
+    pub fn of_each(random: &mut Random, text: &'a [u8], list: &'a [u8]) -> [Call<'a>; CALLS] {
         let lines = text.split(|byte| *byte == b'\n').count();
-        let methods = [(); 4].map(|_| random.between(0, METHODS));
+        let methods = [(); 5].map(|_| random.between(0, METHODS));
         let positions = [(); 2].map(|_| random.below(lines) as u64);
         let operations = [
             Report,
@@ -163,8 +169,13 @@ impl<'a> Call<'a> {
             Rewrite,
             Growth(methods[2]),
             Scaled(methods[3]),
+            Check(methods[4]),
         ];
-        operations.map(|operation| Call { text, operation })
+        operations.map(|operation| Call {
+            text,
+            list,
+            operation,
+        })
     }
 
     /// Made alone, with a fresh buffer.
@@ -173,7 +184,7 @@ impl<'a> Call<'a> {
     }
 
     fn made(&self, buffer: &mut [u8]) -> Given {
-        let call = |out: &mut [u8]| self.operation.call_library(self.text, out);
+        let call = |out: &mut [u8]| self.operation.call_library(self.text, self.list, out);
         Given::by(call, self.operation.writes(), buffer)
     }
 
@@ -189,6 +200,10 @@ impl<'a> Call<'a> {
             },
             Rewrite => match outcome.writing() {
                 Ok(writing) => Given::text(writing.text(room)),
+                Err(refusal) => Given::text(Err(refusal)),
+            },
+            Check(method) => match outcome.checks().check(self.list, method) {
+                Ok(checked) => Given::text(fitting(checked.text.as_bytes(), room)),
                 Err(refusal) => Given::text(Err(refusal)),
             },
             Growth(_) | Scaled(_) => return None,
@@ -303,10 +318,10 @@ mod tests {
         let texts = [table_p(), longest_report()];
         let calls: Vec<Call> = texts
             .iter()
-            .flat_map(|text| Call::of_each(&mut random, text))
+            .flat_map(|text| Call::of_each(&mut random, text, b"R\ta\t2\nR\tb\t-\n"))
             .collect();
         let queue: Vec<usize> = (0..calls.len()).collect();
-        for (workers, in_step) in [(1, false), (2, false), (3, true), (7, false)] {
+        for (workers, in_step) in [(1, false), (2, true), (3, false), (7, false)] {
             let round = Round {
                 rooms: vec![3_000; workers],
                 begins_anyhow: true,

@@ -32,7 +32,7 @@ pub fn all() -> Names {
     for operation in Operation::NAMES {
         names.extend([true, false].map(|is_given| of_operation(operation, is_given)));
     }
-    names.extend([None, Some(12), Some(13), Some(14)].map(refused));
+    names.extend([None, Some(12), Some(13), Some(14), Some(19), Some(20)].map(refused));
     names
 }
 
@@ -79,7 +79,7 @@ pub fn reached_in_step(calls: &[Call], logs: &[Vec<Made>]) -> Names {
 
 /// The refusals that are not of the text.
 fn asked_too_much(number: u64) -> Option<u64> {
-    Some(number).filter(|number| (12..=14).contains(number))
+    Some(number).filter(|number| matches!(number, 12..=14 | 19 | 20))
 }
 
 fn refused(number: Option<u64>) -> String {

@@ -3,7 +3,8 @@
 use super::{spread, tell_least, tell_text, Comparison, ValidTexts};
 use crpd_compare::checks;
 use crpd_compare::checks::pool::{pooled, Call, Given, Round, CALLS};
-use crpd_compare::generate;
+use crpd_compare::damage;
+use crpd_compare::generate::{self, text_of};
 use crpd_compare::groups::Group;
 use crpd_compare::model::{Outcome, Worker};
 use crpd_compare::random::Random;
@@ -84,7 +85,8 @@ impl Comparison {
         let common = spread(&valid.common, share(500)).chain(spread(refused, share(200)));
         let longest = spread(&valid.extreme, share(60)).chain(&valid.worst);
         texts.extend(common.chain(longest).cloned());
-        let (calls, alone) = self.alone(&texts);
+        let lists = self.lists_for(&texts);
+        let (calls, alone) = self.alone(&texts, &lists);
         let mut group = Group::new("calls by several workers, in any order");
         for (round, queue, which) in rounds() {
             let workers = round.rooms.len();
@@ -104,14 +106,35 @@ impl Comparison {
         self.close(group);
     }
 
+    /// A list for each text, mostly a good one.
+    fn lists_for(&mut self, texts: &[Vec<u8>]) -> Vec<Vec<u8>> {
+        let random = &mut self.random;
+        let list = |text: &Vec<u8>| {
+            let outcome = Outcome::of(text, None);
+            let list = match outcome.refusal() {
+                None => text_of(&generate::list(random, &outcome)),
+                Some(_) => b"R\ta\t1\n".to_vec(),
+            };
+            match random.chance(20) {
+                true => damage::altered(random, &list),
+                false => list,
+            }
+        };
+        texts.iter().map(list).collect()
+    }
+
     /// All calls of the texts, and what each gives alone, with either length.
-    fn alone<'a>(&mut self, texts: &'a [Vec<u8>]) -> (Vec<Call<'a>>, [Vec<Given>; 2]) {
+    fn alone<'a>(
+        &mut self,
+        texts: &'a [Vec<u8>],
+        lists: &'a [Vec<u8>],
+    ) -> (Vec<Call<'a>>, [Vec<Given>; 2]) {
         let mut group = Group::new("calls alone");
         let mut calls = Vec::new();
         let mut alone = ROOMS.map(|_| Vec::new());
-        for text in texts {
+        for (text, list) in texts.iter().zip(lists) {
             let outcome = Outcome::of(text, None);
-            for call in Call::of_each(&mut self.random, text) {
+            for call in Call::of_each(&mut self.random, text, list) {
                 for (alone, room) in alone.iter_mut().zip(ROOMS) {
                     let given = call.alone(room);
                     let expected = call.by_model(&outcome, room);

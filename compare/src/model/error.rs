@@ -207,6 +207,44 @@ pub enum Error {
     LeavesOwnLineOut,
     /// 104: a task's answer does not depend on accesses of which it is the ceiling itself.
     LeavesOwnCeilingOut,
+    /// 105: every number from the response up to the limit is `ok`.
+    TakesLargerForOk,
+    /// 106: `-` is `bad`.
+    CallsNoneBad,
+    /// 107: a number is held against D, not D - J.
+    HoldsBoundAgainstDeadline,
+    /// 108: a list may name the tasks in any order.
+    PassesAnyOrder,
+    /// 109: 20 comes before 19 on a line.
+    LooksAtNameFirst,
+    /// 110: where a line is missing the last one is told.
+    TellsLastForMissing,
+    /// 111: the combined method is `bad` where a union says `open` and none says `ok`.
+    CombinesToBad,
+    /// 112: a number is `ok` only if its demand is smaller.
+    WantsSmallerDemand,
+    /// 113: a number is `ok` if its demand is no larger for one of the accesses.
+    AsksOneAccess,
+    /// 114: a number is held against the plain equation, whatever may block the task.
+    AsksPlainEquation,
+    /// 115: a number may be `open` where a single access may block the task.
+    OpensForOneAccess,
+    /// 116: with several accesses a number is `open` past the limit as well.
+    OpensPastLimit,
+    /// 117: a number is never `open`.
+    NeverOpens,
+    /// 118: the combined method is `ok` only if both unions say so.
+    WantsBothUnions,
+    /// 119: the last line of a list need not be ended.
+    PassesUnended,
+    /// 120: 19 on any line comes before 20.
+    LooksAtFormsFirst,
+    /// 121: 19 comes before 12 and the refusals of the text.
+    LooksAtListFirst,
+    /// 122: lines after the last task's are not looked at.
+    PassesSurplus,
+    /// 123: 0 is taken for `-`.
+    TakesZeroForNone,
 }
 
 /// What of the model an error is built into.
@@ -223,11 +261,15 @@ pub enum Part {
     Working,
     /// Saying what holds of two answers.
     Relating,
+    /// Holding a list of bounds against the equations.
+    Checking,
 }
 
-use Part::{Answering, Explaining, Growing, Reading, Relating, Summing, Working, Writing};
+use Part::{
+    Answering, Checking, Explaining, Growing, Reading, Relating, Summing, Working, Writing,
+};
 
-const ERRORS: [(&str, Error, Part); 105] = [
+const ERRORS: [(&str, Error, Part); 124] = [
     ("1", Error::StartsFromGuess, Answering),
     ("2", Error::JudgesAtLimit, Answering),
     ("3", Error::CombinesPerPair, Answering),
@@ -333,6 +375,25 @@ const ERRORS: [(&str, Error, Part); 105] = [
     ("102", Error::TakesNextForAbove, Relating),
     ("103", Error::LeavesOwnLineOut, Relating),
     ("104", Error::LeavesOwnCeilingOut, Relating),
+    ("105", Error::TakesLargerForOk, Checking),
+    ("106", Error::CallsNoneBad, Checking),
+    ("107", Error::HoldsBoundAgainstDeadline, Checking),
+    ("108", Error::PassesAnyOrder, Checking),
+    ("109", Error::LooksAtNameFirst, Checking),
+    ("110", Error::TellsLastForMissing, Checking),
+    ("111", Error::CombinesToBad, Checking),
+    ("112", Error::WantsSmallerDemand, Checking),
+    ("113", Error::AsksOneAccess, Checking),
+    ("114", Error::AsksPlainEquation, Checking),
+    ("115", Error::OpensForOneAccess, Checking),
+    ("116", Error::OpensPastLimit, Checking),
+    ("117", Error::NeverOpens, Checking),
+    ("118", Error::WantsBothUnions, Checking),
+    ("119", Error::PassesUnended, Checking),
+    ("120", Error::LooksAtFormsFirst, Checking),
+    ("121", Error::LooksAtListFirst, Checking),
+    ("122", Error::PassesSurplus, Checking),
+    ("123", Error::TakesZeroForNone, Checking),
 ];
 
 impl Error {

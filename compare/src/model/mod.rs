@@ -5,9 +5,10 @@
 //! is found by trying every number where the limit is small, each access that may block a task has an
 //! equation of its own, whether a text gives a table value is found by reading what the value spells,
 //! and a growth by reading the table of every k. The members of a sum or of a union may be taken in any
-//! order.
+//! order. A bound that somebody else gives is put into the equations, and nothing is searched for.
 
 mod blocking;
+mod check;
 mod costs;
 mod error;
 mod explain;
@@ -21,6 +22,7 @@ pub mod value;
 mod worker;
 mod write;
 
+pub use check::{Checked, Checks, Word};
 pub use costs::METHODS;
 pub use error::{Error, Part};
 pub use explain::{Case, Explanation, Interference, FIGURE_MOST};
@@ -159,6 +161,12 @@ impl Outcome {
     pub fn growing(&self) -> Option<Growing<'_>> {
         let table = self.table()?;
         Some(Growing::new(&self.text, table, self.error))
+    }
+
+    /// What is said of a partner's list of bounds.
+    pub fn checks(&self) -> Checks<'_> {
+        let accepted = self.accepted.as_ref().map_err(|refusal| *refusal);
+        Checks::new(accepted.map(|(table, _)| table), self.error)
     }
 
     pub fn explanations(&self) -> Explanations<'_> {

@@ -273,11 +273,11 @@ fn position_of(table: &Table, name: &str) -> Option<usize> {
     table.tasks.iter().position(|task| task.name == name)
 }
 
-fn split(line: &[u8]) -> Vec<&[u8]> {
+pub fn split(line: &[u8]) -> Vec<&[u8]> {
     line.split(|byte| *byte == b'\t').collect()
 }
 
-fn name(field: &[u8]) -> Option<String> {
+pub fn name(field: &[u8]) -> Option<String> {
     let allowed = |letter: char| matches!(letter, 'a'..='z' | '0'..='9' | '-');
     let name = std::str::from_utf8(field).ok()?;
     let good = (1..=NAME_MOST).contains(&name.len()) && name.chars().all(allowed);
@@ -290,7 +290,7 @@ fn numbers(fields: &[&[u8]]) -> Result<Vec<u64>, Number> {
 }
 
 /// A number is well spelled if the standard library would spell it the same.
-fn number(field: &[u8]) -> Option<u64> {
+pub fn number(field: &[u8]) -> Option<u64> {
     let spelled = std::str::from_utf8(field).ok()?;
     let value: u64 = spelled.parse().ok()?;
     (spelled.len() <= DIGITS_MOST && value.to_string() == spelled).then_some(value)

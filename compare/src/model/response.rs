@@ -59,7 +59,7 @@ impl Equation {
         }
     }
 
-    fn demand(&self, response: u64) -> u64 {
+    pub fn demand(&self, response: u64) -> u64 {
         let taken = self.loads.iter().map(|load| {
             let activations = self.activations(load, response);
             activations.checked_mul(load.each).expect("in range")

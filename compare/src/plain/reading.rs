@@ -187,7 +187,7 @@ pub fn is_name(field: &[u8]) -> bool {
     !field.is_empty() && field.len() <= 12 && field.iter().all(good)
 }
 
-fn number(field: &[u8]) -> Option<u64> {
+pub fn number(field: &[u8]) -> Option<u64> {
     if field.is_empty() || field.len() > 9 || (field[0] == b'0' && field.len() > 1) {
         return None;
     }

@@ -1,6 +1,6 @@
 // What may block one task. specs/Analysis.antt says which accesses they are.
 
-ghost use Rattle.std.specs.Prelude.{◌≡◌, ◌∷◌, [], MatchOption};
+ghost use Rattle.std.specs.Prelude.{◌≡◌, ◌∷◌, [], MatchOption, length, nat_le};
 ghost use Rattle.std.specs.Iterator.{YieldsFirstRef, item_count};
 ghost use Rattle.table.specs.Accesses.{blocking, or_else};
 ghost use Rattle.table.specs.Tables.{accesses_of};
@@ -64,6 +64,14 @@ impl<'a> Iterator for Blocking<'a> {
         self.rest = behind;
         Some(access)
     }
+}
+
+// Whether two or more of these may block the task at i.
+pub fn are_several(accesses: &[Access], i: usize) -> bool
+    ensures { result ≡ nat_le 2 (length (blocking i accesses.now)) }
+{
+    let mut blocking = Blocking::of(accesses, i);
+    blocking.next().is_some() && blocking.next().is_some()
 }
 
 // Where the longest of these stands that may block the task at i, if any may: the first of them.

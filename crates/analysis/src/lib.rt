@@ -9,6 +9,8 @@ pub mod blockers;
 pub mod carried;
 // What pre-emption costs: reload counts and weights.
 pub mod costs;
+// Whether a time covers the demand of a task.
+pub mod covering;
 // What a task needs, whatever its limit is, and by which method.
 pub mod need;
 // What the tasks above one task are charged and ask for.

@@ -4,7 +4,7 @@ use Rattle.std.proofs.Math.Bool.{and-eq-true_iff}
 use Rattle.std.proofs.Math.Decide.{dec_lt}
 use Rattle.std.specs.List.{insert}
 use Rattle.std.proofs.lemmas.Bool.{lt-leb}
-use Rattle.std.proofs.lemmas.List.{length-map, length-take, get_or-map, get_or_past}
+use Rattle.std.proofs.lemmas.List.{length-map, get_or-map}
 use Rattle.std.proofs.lemmas.List.Edits.{length-insert, get_or-insert_below, get_or-insert_above}
 use Rattle.cache.specs.declared.units.Ticks.{Ticks}
 use Rattle.cache.specs.UsefulField.{ways_of}
@@ -20,6 +20,7 @@ use Rattle.analysis.specs.declared.Method.{Method}
 use Rattle.analysis.specs.Harder.{HarderTask, HarderAccess, HarderBy}
 use Rattle.analysis.specs.Same.{unowned, SameNamesDownTo}
 use Rattle.analysis.specs.Analysis.{response_of}
+use Rattle.analysis.proofs.TableLaws.{tasks-counted}
 use Rattle.analysis.proofs.Orders.{response-place}
 use Rattle.laws.specs.Added.{place_after, moved_by, TaskAdded}
 
@@ -72,16 +73,6 @@ module _ (p : ℕ) where
         go false e r s q = q
 
 -- ---- tables
-
--- an accepted table has as many tasks as are counted
-pub tasks-counted : (table : Table) → AcceptedTable table → length (tasks_of table) ≡ table.count
-unfolding at
-tasks-counted table accepted = elim (dec_lt (length (tasks_of table)) table.count) [
-  | yes l ↦
-      (let none : (at table (length (tasks_of table))).work.0 ≡ 0 = ap (λ (t : Task). t.work.0) (get_or_past (tasks_of table) (length (tasks_of table)) blank (le_refl _)) in
-      absurd (omega (arith, none, (accepted.tasks (length (tasks_of table)) l).work.0)))
-  | no l ↦ omega (arith, length-take table.count table.tasks)
-]
 
 module _ (p : ℕ) (t : Task) (first second : Table) (added : TaskAdded p t first second) (accepted : AcceptedTable first) (accepted' : AcceptedTable second) where
   within : p ≤ length (tasks_of first)

@@ -16,3 +16,4 @@ pub mod PutLaws
 pub mod SameExplained
 pub mod TwoTexts
 pub mod DominanceLaws
+pub mod ClaimLaws

@@ -8,6 +8,8 @@ use Rattle.analysis.specs.declared.costs.Single.{Single}
 use Rattle.analysis.specs.declared.costs.Charge.{Charge}
 use Rattle.analysis.specs.declared.Method.{Method}
 use Rattle.analysis.specs.Figures.{Figure, figures, ChargeFigure, charge_figures}
+use Rattle.claims.specs.declared.finding.Finding.{Finding}
+use Rattle.claims.specs.Figures.{ClaimFigure, claim_figures}
 
 -- a task without its name
 abbrev pub unnamed : Task → Task
@@ -28,3 +30,8 @@ IsFigured table m i r = All (λ (f : Figure). IsTableOf f.table table → m ≡ 
 abbrev pub IsChargeFigured : Table → Single → ℕ → ℕ → Charge → Type 0
 IsChargeFigured table m i j g =
     All (λ (f : ChargeFigure). IsTableOf f.table table → m ≡ f.method → i ≡ f.position → j ≡ f.preempting → g ≡ f.charge) charge_figures
+
+-- and those of a claim have this finding
+abbrev pub IsFindingFigured : Table → Method → ℕ → Response → Finding → Type 0
+IsFindingFigured table m i claim found =
+    All (λ (f : ClaimFigure). IsTableOf f.table table → m ≡ f.method → i ≡ f.position → claim ≡ f.claim → found ≡ f.finding) claim_figures

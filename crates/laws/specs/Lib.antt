@@ -11,3 +11,4 @@ pub mod Solutions
 pub mod Texts
 pub mod Added
 pub mod Dominance
+pub mod Claimed

@@ -8,6 +8,8 @@ pub mod added;
 pub mod any_order;
 // Any worker gets the same answer.
 pub mod any_worker;
+// What is found of claimed responses, beside our own.
+pub mod claimed;
 // Which of the methods never answers later than which.
 pub mod dominance;
 pub mod explanations;

@@ -1,7 +1,7 @@
 -- The number of a refusal is at most 25.
 use Rattle.std.proofs.Common.{◌≤◌, arith}
 use Rattle.table.specs.declared.refusals.Reason.{Reason}
-use Rattle.table.specs.declared.refusals.Reason.TheVariants.{TooLong, NotEnded, Shape, Name, Number, Range, Marks, Order, KnownName, TooManyTasks, NoTask, Method, Position, ShortBuffer, OtherTask, TooManyAccesses, Blocking, TooManyBlocks, NoText}
+use Rattle.table.specs.declared.refusals.Reason.TheVariants.{TooLong, NotEnded, Shape, Name, Number, Range, Marks, Order, KnownName, TooManyTasks, NoTask, Method, Position, ShortBuffer, OtherTask, TooManyAccesses, Blocking, TooManyBlocks, ListLine, ListName, HasJitter, HasAccess, LongHyperperiod, LongDeadline, NoText}
 use Rattle.table.specs.Numbers.{reason_number}
 
 pub number-small : (reason : Reason) → reason_number reason ≤ 25
@@ -23,4 +23,10 @@ number-small OtherTask = omega arith
 number-small TooManyAccesses = omega arith
 number-small Blocking = omega arith
 number-small TooManyBlocks = omega arith
+number-small ListLine = omega arith
+number-small ListName = omega arith
+number-small HasJitter = omega arith
+number-small HasAccess = omega arith
+number-small LongHyperperiod = omega arith
+number-small LongDeadline = omega arith
 number-small NoText = omega arith

@@ -2,7 +2,7 @@
 use Rattle.std.specs.Prelude.{ℕ}
 use Rattle.table.specs.declared.refusals.Reason.{Reason}
 use Rattle.table.specs.declared.refusals.Refusal.{Refusal}
-use Rattle.table.specs.declared.refusals.Reason.TheVariants.{TooLong, NotEnded, Shape, Name, Number, Range, Marks, Order, KnownName, TooManyTasks, NoTask, Method, Position, ShortBuffer, OtherTask, TooManyAccesses, Blocking, TooManyBlocks, NoText}
+use Rattle.table.specs.declared.refusals.Reason.TheVariants.{TooLong, NotEnded, Shape, Name, Number, Range, Marks, Order, KnownName, TooManyTasks, NoTask, Method, Position, ShortBuffer, OtherTask, TooManyAccesses, Blocking, TooManyBlocks, ListLine, ListName, HasJitter, HasAccess, LongHyperperiod, LongDeadline, NoText}
 
 abbrev pub reason_number : Reason → ℕ
 reason_number TooLong = 1
@@ -23,6 +23,12 @@ reason_number OtherTask = 15
 reason_number TooManyAccesses = 16
 reason_number Blocking = 17
 reason_number TooManyBlocks = 18
+reason_number ListLine = 19
+reason_number ListName = 20
+reason_number HasJitter = 21
+reason_number HasAccess = 22
+reason_number LongHyperperiod = 23
+reason_number LongDeadline = 24
 reason_number NoText = 25
 
 abbrev pub untold : Reason → Refusal

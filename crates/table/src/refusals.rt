@@ -24,6 +24,12 @@ pub enum Reason {
     TooManyAccesses = 16,
     Blocking = 17,
     TooManyBlocks = 18,
+    ListLine = 19,
+    ListName = 20,
+    HasJitter = 21,
+    HasAccess = 22,
+    LongHyperperiod = 23,
+    LongDeadline = 24,
     NoText = 25,
 }
 

@@ -1,0 +1,94 @@
+-- The reading of a list, one task after the other.
+use Rattle.std.proofs.Common.{ℕ, ◌+◌, ◌≤◌, ◌<◌, ◌≡◌, refl, ap, ◌∙◌, arith, List, [], ◌∷◌, ◌++◌, length, take, drop, set, take-suc-set, append_assoc, append-nil, add-one, Result, Ok, Err}
+use Rattle.std.proofs.lemmas.List.{drop_more, drop_all}
+use Rattle.search.specs.declared.demand.Response.{Response}
+use Rattle.table.specs.declared.refusals.Refusal.{Refusal}
+use Rattle.table.specs.declared.refusals.Reason.{Reason}
+use Rattle.table.specs.Rows.{unless_fault}
+use Rattle.table.proofs.RowLaws.{fault-any, fine-any}
+use Rattle.table.specs.declared.tasks.Task.{Task}
+use Rattle.table.specs.Tasks.{blank}
+use Rattle.table.proofs.ToldLines.{ToldBy}
+use Rattle.table.specs.declared.Table.{Table}
+use Rattle.table.specs.Tables.{tasks_of, at}
+use Rattle.table.specs.Reading.{told, then_read}
+use Rattle.claims.specs.Lists.{claim_rows, first_claim, end_of_list_rows, claims_from, claims_in}
+
+abbrev none : List Response
+none = []
+
+module _ (table : Table) (list : List ℕ) where
+  -- the claims of the first i tasks are read, and this is left of the list: going on from here gives what the whole list claims
+  abbrev pub ReadSoFar : ℕ → List ℕ → List Response → Type 0
+  ReadSoFar i rest claims = then_read (claims_from (i + 1) (drop i (tasks_of table)) rest) (λ more. Ok (take i claims ++ more)) ≡ claims_in table list
+
+  pub none-read : ReadSoFar 0 list []
+  unfolding claims_in
+  none-read = go (claims_from 1 (tasks_of table) list)
+    where
+      go : (r : Result (List Response) Refusal) → then_read r (λ more. Ok more) ≡ r
+      go (Ok more) = refl
+      go (Err e) = refl
+
+  module _ (i : ℕ) (rest : List ℕ) (claims : List Response) (so_far : ReadSoFar i rest claims) where
+    module _ (held : i < length (tasks_of table)) where
+      -- one task more
+      opened : claims_from (i + 1) (drop i (tasks_of table)) rest
+          ≡ then_read (first_claim (i + 1) (at table i) rest) (λ next. then_read (claims_from (i + 1 + 1) (drop (i + 1) (tasks_of table)) next.1) (λ more. Ok (next.0 ∷ more)))
+      unfolding claims_from at
+      opened = rw (drop_more (tasks_of table) i blank held) refl
+
+      pub read-refused : {e : Refusal} → first_claim (i + 1) (at table i) rest ≡ Err e → Err e ≡ claims_in table list
+      read-refused f = rw (opened, f) at so_far
+
+      pub one-read : {claim : Response} {below : List ℕ} → i < length claims → first_claim (i + 1) (at table i) rest ≡ Ok (claim, below) → ReadSoFar (i + 1) below (set claims i claim)
+      one-read {claim} {below} room f = go (claims_from (i + 1 + 1) (drop (i + 1) (tasks_of table)) below) ∙ (rw (opened, f) at so_far)
+        where
+          go : (r : Result (List Response) Refusal) → then_read r (λ more. Ok (take (i + 1) (set claims i claim) ++ more))
+              ≡ then_read (then_read r (λ more. Ok (claim ∷ more))) (λ more. Ok (take i claims ++ more))
+          go (Ok more) = ap Ok (rw (add-one i, take-suc-set claims i claim room) (append_assoc (take i claims) (claim ∷ []) more))
+          go (Err e) = refl
+
+    -- where the tasks end, so has the list to
+    module _ (all : i ≡ length (tasks_of table)) where
+      closed : claims_from (i + 1) (drop i (tasks_of table)) rest ≡ told (i + 1) (unless_fault (end_of_list_rows rest) none)
+      unfolding claims_from
+      closed = rw (drop_all i (tasks_of table) (omega arith)) refl
+
+      pub end-refused : {e : Refusal} → Err e ≡ told (i + 1) (unless_fault (end_of_list_rows rest) (tt {0})) → Err e ≡ claims_in table list
+      end-refused {e} f = go (unless_fault (end_of_list_rows rest) (tt {0})) refl f
+        where
+          go : (r : Result (Unit {0}) _) → unless_fault (end_of_list_rows rest) (tt {0}) ≡ r → Err e ≡ told (i + 1) r → Err e ≡ claims_in table list
+          go (Ok u) q f = let z : ◌≡◌ {A = ℕ} 0 1 = cc in absurd (omega arith)
+          go (Err reason) q f =
+              let same : ◌≡◌ {A = Refusal} e (record { reason = reason; line = i + 1 }) = cc in
+              rw same (rw (closed, fault-any (end_of_list_rows rest) (tt {0}) none q) at so_far)
+
+      pub all-read : {u : Unit {0}} → Ok u ≡ told (i + 1) (unless_fault (end_of_list_rows rest) (tt {0})) → ◌≡◌ {A = Result (List Response) Refusal} (Ok (take i claims)) (claims_in table list)
+      all-read {u} f = go (unless_fault (end_of_list_rows rest) (tt {0})) refl f
+        where
+          go : (r : Result (Unit {0}) _) → unless_fault (end_of_list_rows rest) (tt {0}) ≡ r → Ok u ≡ told (i + 1) r → Ok (take i claims) ≡ claims_in table list
+          go (Ok v) q f = rw (closed, (fine-any (end_of_list_rows rest) (tt {0}) none q).1, append-nil) at so_far
+          go (Err reason) q f = let z : ◌≡◌ {A = ℕ} 0 1 = cc in absurd (omega arith)
+
+-- ---- the line that is told
+
+told-here : {X : Type 0} (line most : ℕ) (r : Result X Reason) → line ≤ most → ToldBy most (told line r)
+told-here line most (Ok x) h = tt
+told-here line most (Err reason) h = h
+
+-- is one of a line for each task, or the one below them
+pub claims-told : (tasks : List Task) (line most : ℕ) (list : List ℕ) → line + length tasks ≤ most → ToldBy most (claims_from line tasks list)
+unfolding claims_from first_claim
+claims-told [] line most list h = told-here line most (unless_fault (end_of_list_rows list) none) (omega arith)
+claims-told (task ∷ tasks) line most list h =
+    go (first_claim line task list) (told-here line most (unless_fault (claim_rows task list) _) (omega arith)) (λ below. claims-told tasks (line + 1) most below (omega arith))
+  where
+    last : (claim : Response) (r : Result (List Response) Refusal) → ToldBy most r → ToldBy most (then_read r (λ claims. Ok (claim ∷ claims)))
+    last claim (Ok claims) p = tt
+    last claim (Err e) p = p
+
+    go : (r : Result (Response × List ℕ) Refusal) → ToldBy most r → ((below : List ℕ) → ToldBy most (claims_from (line + 1) tasks below))
+        → ToldBy most (then_read r (λ next. then_read (claims_from (line + 1) tasks next.1) (λ claims. Ok (next.0 ∷ claims))))
+    go (Ok next) p each = last next.0 (claims_from (line + 1) tasks next.1) (each next.1)
+    go (Err e) p each = p

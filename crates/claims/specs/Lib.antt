@@ -1,0 +1,4 @@
+pub mod Lists
+pub mod Findings
+pub mod Told
+pub mod Figures

@@ -1,0 +1,88 @@
+-- A partner's list: below one another, in the order of a table's tasks, a line with the response that is claimed of each. What it claims, or its first refusal.
+use Rattle.std.specs.Prelude.{ℕ, ◌+◌, ◌≡◌, Bool, true, not, ◌&&◌, List, [], ◌∷◌, length, Option, Some, option_map, is_some, unwrap_or, Result, Ok, if◌then◌else◌, nat_lt, ◌==◌, codes}
+use Rattle.std.specs.Str.{bytes_eq}
+use Rattle.search.specs.declared.demand.Response.{Response}
+use Rattle.search.specs.declared.demand.Response.TheVariants.{Within, Unschedulable}
+use Rattle.table.specs.Cut.{up_to, after, field}
+use Rattle.table.specs.Fields.{read_number, has_shape, is_name}
+use Rattle.table.specs.declared.refusals.Reason.TheVariants.{ListLine, ListName}
+use Rattle.table.specs.declared.refusals.Refusal.{Refusal}
+use Rattle.table.specs.Rows.{Conditions, unless_fault}
+use Rattle.table.specs.declared.tasks.Task.{Task}
+use Rattle.table.specs.Tasks.{name_text}
+use Rattle.table.specs.declared.Table.{Table}
+use Rattle.table.specs.Tables.{tasks_of}
+use Rattle.table.specs.Reading.{told, ◌>>=◌}
+use Rattle.claims.specs.declared.list.Claimed.{Claimed}
+use Rattle.claims.specs.declared.list.ListFields.{ListFields}
+
+-- a claim: a number of ticks, or `-` for no response
+unfoldable pub read_claim : List ℕ → Option Response
+read_claim s = if bytes_eq s (codes "-") then Some Unschedulable else option_map (λ n. Within (record { 0 = n })) (read_number s)
+
+-- these are the fields of a list line, of which it has three, behind the first, `R`
+pub record AreListFields (line : List ℕ) (f : ListFields) : Type 0 where
+  pub shaped : has_shape (codes "R") 3 line ≡ true
+  pub name : f.name.now ≡ field 1 line
+  pub claim : f.claim.now ≡ field 2 line
+
+-- a list line: `R`, a name, and a claim
+unfoldable pub is_list_line : List ℕ → Bool
+is_list_line line = has_shape (codes "R") 3 line && is_name (field 1 line) && is_some (read_claim (field 2 line))
+
+-- its name and its claim
+abbrev pub name_listed : List ℕ → List ℕ
+name_listed line = field 1 line
+
+abbrev pub claim_listed : List ℕ → Response
+claim_listed line = unwrap_or (read_claim (field 2 line)) Unschedulable
+
+-- this is what a list line says
+pub record SaysListLine (line : List ℕ) (said : Claimed) : Type 0 where
+  pub formed : is_list_line line ≡ true
+  pub name : said.name.now ≡ name_listed line
+  pub claim : said.claim ≡ claim_listed line
+
+-- the first line of what is left of a list: it is ended by LF, and a list line
+abbrev pub is_line_ended : List ℕ → Bool
+is_line_ended list = nat_lt (length (up_to 10 list)) (length list)
+
+abbrev pub has_list_line : List ℕ → Bool
+has_list_line list = is_line_ended list && is_list_line (up_to 10 list)
+
+-- this is what it says, and what is left below it
+pub record BeginsWithLine (list : List ℕ) (said : Claimed) (below : List ℕ) : Type 0 where
+  pub ended : is_line_ended list ≡ true
+  pub line : SaysListLine (up_to 10 list) said
+  pub rest : below ≡ after 10 list
+
+-- where a task's line is to stand: it is missing, it is malformed, or it has the name of another task
+unfoldable pub claim_rows : Task → List ℕ → Conditions
+claim_rows task list =
+    (length list == 0, ListName)
+    ∷ (not (has_list_line list), ListLine)
+    ∷ (not (bytes_eq (name_listed (up_to 10 list)) (name_text task.name)), ListName)
+    ∷ []
+
+-- where the list is to end: the line that stands there is malformed, or one too many
+unfoldable pub end_of_list_rows : List ℕ → Conditions
+end_of_list_rows list =
+    (nat_lt 0 (length list) && not (has_list_line list), ListLine)
+    ∷ (nat_lt 0 (length list), ListName)
+    ∷ []
+
+-- what the first line claims of the task whose line is to stand there, and the list below it
+unfoldable pub first_claim : ℕ → Task → List ℕ → Result (Response × List ℕ) Refusal
+first_claim line task list = told line (unless_fault (claim_rows task list) (claim_listed (up_to 10 list), after 10 list))
+
+-- the claims of these tasks, by what is left of a list from a line on: one for each
+unfoldable pub claims_from : ℕ → List Task → List ℕ → Result (List Response) Refusal
+claims_from line [] list = told line (unless_fault (end_of_list_rows list) [])
+claims_from line (task ∷ tasks) list = do
+  next ← first_claim line task list
+  claims ← claims_from (line + 1) tasks next.1
+  Ok (next.0 ∷ claims)
+
+-- those of a whole list, of the tasks of a table
+unfoldable pub claims_in : Table → List ℕ → Result (List Response) Refusal
+claims_in table list = claims_from 1 (tasks_of table) list
