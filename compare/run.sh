@@ -106,5 +106,11 @@ done
 for error in 108 109 110 119 120 121 122; do
     find_error 'lists spoiled for a known reason' "$error"
 done
+for error in 124 125 126 127 128 129 130 131 132 133 134 135 138 140 141; do
+    find_error 'verdicts by deadlines' "$error" 10
+done
+for error in 136 137 139; do
+    find_error 'tables refused by deadlines for a known reason' "$error" 10
+done
 printf '%s passed, %s failed\n' "$passed" "$failed"
 [ "$failed" = 0 ]

@@ -3,8 +3,8 @@
  * Every function takes every text, number and buffer, and answers one number. Below 2^32 it is the
  * answer; from 2^32 on it is a refusal, whose number and line the functions at the end take out. The
  * refusals of a text are 1 to 11 and 17, 15 and 16 where it has access lines, and 18 where line 1 names
- * the ways; 12 and 13 are those of a method and a position, 19 and 20 those of a partner's list, and 14 that
- * of a buffer. docs/RULES.md says when each is given.
+ * the ways; 12 and 13 are those of a method and a position, 19 and 20 those of a partner's list, 21 to 23 those
+ * of a table that earliest deadline first is not asked of, and 14 that of a buffer. docs/RULES.md says when each is given.
  *
  * No function keeps anything from one call to the next: the answer, and every byte that is written, come
  * from the text, the numbers and the length of the buffer alone. So calls may be made in any order and by
@@ -64,6 +64,13 @@ uint64_t crpd_scaled(const uint8_t *text, size_t text_len, uint64_t method, uint
  * or `bad`. A number that is ok is never below what crpd_answer gives; that number itself is never bad, and ok where at
  * most one access may block the task. What follows it in out, and all of out where it is refused, stays as it was. */
 uint64_t crpd_check(const uint8_t *text, size_t text_len, const uint8_t *list, size_t list_len, uint64_t method, uint8_t *out, size_t out_len);
+
+/* Whether the tasks are schedulable by earliest deadline first: 1 for yes, 0 for no. Each job is charged its own C
+ * and, for its pre-emptions by each task with a smaller deadline, what it has to reload after them. It is yes exactly
+ * if at every whole time the jobs that are released and due within that time ask for no more than it. No task may
+ * have a jitter, and the table no access line; and the least common multiple of the periods may not be above
+ * 250,000,000. */
+uint64_t crpd_edf(const uint8_t *text, size_t text_len);
 
 /* As crpd_report, for what the program crpd-report prints: the report, or the line of the text's refusal. Its
  * only refusal is 14, where out is too short. */

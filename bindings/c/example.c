@@ -1,8 +1,9 @@
 /* Prints the response of every task of a table under every method, then the report, and then why combined
  * (method 5) answers for the last task what it does, and after that the table itself, read and written again.
  * Then comes how much growth is left under every method, and the table with the growth that combined leaves.
- * The table is read from standard input. Then comes the same explanation for a task that an access to a shared
- * device may block, and last what is found of a list of responses of that table. */
+ * Then comes whether it is schedulable by earliest deadline first. The table is read from standard input. Then
+ * comes the same explanation for a task that an access to a shared device may block, and last what is found of a
+ * list of responses of that table. */
 #include <stdio.h>
 
 #include "crpd.h"
@@ -64,6 +65,10 @@ int main(void) {
     if (crpd_is_refusal(written))
         return refused(written);
     fwrite(out, 1, (size_t)written, stdout);
+    uint64_t verdict = crpd_edf(text, len);
+    if (crpd_is_refusal(verdict))
+        return refused(verdict);
+    printf("earliest deadline first: %s\n", verdict == 1 ? "yes" : "no");
     written = crpd_explain((const uint8_t *)shared, sizeof shared - 1, 5, 1, out, sizeof out);
     if (crpd_is_refusal(written))
         return refused(written);

@@ -1,5 +1,6 @@
 //! Asking the model and the library the same, and telling where they differ.
 
+pub mod deadlines;
 pub mod growths;
 pub mod laws;
 pub mod lists;

@@ -3,6 +3,7 @@
 mod access_reasons;
 mod accesses;
 mod counted;
+mod deadlines;
 mod explained;
 mod growths;
 mod laws;
@@ -122,7 +123,7 @@ impl Classes {
     /// With every class that has to be reached, besides the plans of spoiled texts.
     pub fn new() -> Classes {
         let mut classes = Classes::default();
-        for number in (1..=20).chain([25]) {
+        for number in (1..=23).chain([25]) {
             classes.require(&refusal_name(number));
         }
         let names = OF_ASKING.into_iter().chain(OF_WRITING);
@@ -140,6 +141,7 @@ impl Classes {
             pool::all(),
             laws::all(),
             lists::all(),
+            deadlines::all(),
         ];
         for name in further.iter().flatten() {
             classes.require(name);
@@ -248,6 +250,13 @@ impl Classes {
     /// By a list that would be refused with this number, beside a refused text.
     pub fn reach_list_beside_refused(&mut self, number: u64) {
         for name in lists::reached_beside_refused(number) {
+            self.reach(&name);
+        }
+    }
+
+    /// By a text that was asked for the verdict by deadlines.
+    pub fn reach_by_deadlines(&mut self, outcome: &Outcome) {
+        for name in deadlines::reached(outcome) {
             self.reach(&name);
         }
     }

@@ -2,10 +2,12 @@
 
 mod accesses;
 mod altered;
+mod deadlines;
 mod fields;
 mod lists;
 
 pub use altered::{about_longest, altered};
+pub use deadlines::{deadline_plans, DeadlinePlan};
 pub use lists::{list_plans, ListPlan, SpoiledList};
 
 use crate::generate::{text_of, Lines, Table, BASES};

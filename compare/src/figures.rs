@@ -2,6 +2,7 @@
 
 mod accesses;
 mod counted;
+mod deadlines;
 mod growths;
 mod lists;
 
@@ -36,6 +37,9 @@ pub enum Expected {
     WordsLength(u64, Vec<u8>, usize),
     /// Method and a partner's list.
     ListRefused(u64, Vec<u8>, Refusal),
+    /// Where the earliest deadline comes first.
+    Verdict(bool),
+    NoVerdict(Refusal),
 }
 
 /// Room for every report, every explanation and every table.
@@ -114,6 +118,14 @@ impl Figure {
                 let given = written(|out| library::scaled(text, *method, out));
                 let scaled = outcome.growths().scaled(*method);
                 [scaled.as_ref() == Ok(expected), given == *expected]
+            }
+            Expected::Verdict(expected) => {
+                let given = library::edf(text) == u64::from(*expected);
+                [outcome.edf() == Ok(*expected), given]
+            }
+            Expected::NoVerdict(refusal) => {
+                let given = library::edf(text) == refusal.code();
+                [outcome.edf() == Err(*refusal), given]
             }
             Expected::Words(method, list, expected) => {
                 words(*method, list).map(|words| words == *expected)
@@ -293,6 +305,7 @@ pub fn all() -> Vec<Figure> {
     figures.extend(counted::all());
     figures.extend(growths::all());
     figures.extend(lists::all());
+    figures.extend(deadlines::all());
     figures
 }
 

@@ -3,6 +3,7 @@
 mod accesses;
 mod adding;
 mod builds;
+mod deadlines;
 mod families;
 mod growing;
 mod keeping;
@@ -13,6 +14,9 @@ mod published;
 pub use accesses::ACCESSES_MOST;
 pub use adding::{nearly_full, with_line};
 pub use builds::builds;
+pub use deadlines::{
+    about_last_multiple, by_deadline, by_long_deadline, is_soon_told, of_any_family,
+};
 pub use families::{
     crossed, edges, full, largest, loaded, near_end, near_limit, shared, small, unions, Family,
     BASES,

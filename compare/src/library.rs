@@ -3,10 +3,10 @@
 
 #[cfg(not(feature = "library"))]
 pub use crate::plain::{
-    answer, check, explain, growth, print, report, rewrite, scaled, write_value,
+    answer, check, edf, explain, growth, print, report, rewrite, scaled, write_value,
 };
 #[cfg(feature = "library")]
-pub use linked::{answer, check, explain, growth, print, report, rewrite, scaled};
+pub use linked::{answer, check, edf, explain, growth, print, report, rewrite, scaled};
 #[cfg(feature = "values")]
 pub use values::write_value;
 
@@ -50,6 +50,7 @@ mod linked {
             out: *mut u8,
             out_len: usize,
         ) -> u64;
+        fn crpd_edf(text: *const u8, text_len: usize) -> u64;
     }
 
     pub fn answer(text: &[u8], method: u64, position: u64) -> u64 {
@@ -94,6 +95,11 @@ mod linked {
         let (start, room) = (out.as_mut_ptr(), out.len());
         // SAFETY: each pointer and length are of one slice that lives over the call
         unsafe { crpd_check(text.as_ptr(), text.len(), from, length, method, start, room) }
+    }
+
+    pub fn edf(text: &[u8]) -> u64 {
+        // SAFETY: the pointer and length are of one slice that lives over the call
+        unsafe { crpd_edf(text.as_ptr(), text.len()) }
     }
 }
 

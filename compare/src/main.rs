@@ -7,12 +7,14 @@ use crpd_compare::classes::{self, Classes};
 use crpd_compare::generate::{self, Table};
 use crpd_compare::groups::Group;
 use crpd_compare::model::value::Value;
-use crpd_compare::model::{read, Outcome, Part, Writing};
+use crpd_compare::model::{read, Outcome, Part, Refusal, Writing};
 use crpd_compare::options::{self, Options};
 use crpd_compare::random::Random;
 use crpd_compare::shrink::{shrink, shrink_value};
 use crpd_compare::{damage, figures, library, values};
 
+#[path = "main/deadlines.rs"]
+mod deadlines;
 #[path = "main/growths.rs"]
 mod growths;
 #[path = "main/laws.rs"]
@@ -112,6 +114,7 @@ impl Comparison {
                     self.lines_more();
                     self.lines_changed();
                 }
+                Part::ByDeadline => self.by_deadlines(&valid, &[]),
                 Part::Checking => {
                     self.bounds(&valid);
                     self.refused_lists(&valid, &[b"K\n".to_vec()]);
@@ -146,6 +149,7 @@ impl Comparison {
         self.bounds(&valid);
         self.refused_lists(&valid, &refused);
         self.list_rooms(&valid, &refused);
+        self.by_deadlines(&valid, &refused);
         self.close(self.order.clone());
         if self.options.percent == 100 {
             self.class_counts();
@@ -244,7 +248,7 @@ impl Comparison {
                     self.classes.reach(&spoiled.plan);
                 }
                 if reasons.differs(as_meant) {
-                    tell_wrong_reason(&spoiled, &outcome);
+                    tell_wrong_reason(&spoiled, outcome.refusal());
                 }
                 texts.push(spoiled.text);
             }
@@ -482,12 +486,12 @@ fn hard_texts(longest: u64) -> Vec<Vec<u8>> {
     tables.iter().map(Table::text).collect()
 }
 
-fn tell_wrong_reason(spoiled: &damage::Spoiled, outcome: &Outcome) {
+fn tell_wrong_reason(spoiled: &damage::Spoiled, met: Option<Refusal>) {
     println!(
         "mismatch: spoiled by \"{}\", meant {:?}, met {:?}: {}",
         spoiled.plan,
         spoiled.refusal,
-        outcome.refusal(),
+        met,
         spoiled.text.escape_ascii()
     );
 }

@@ -3,12 +3,14 @@
 
 mod blocks;
 mod check;
+mod edf;
 mod explain;
 mod growth;
 mod reading;
 mod table;
 
 pub use check::check;
+pub use edf::edf;
 pub use explain::{explain, explain_within};
 pub use growth::{growth, scaled};
 pub use reading::read;

@@ -1,4 +1,5 @@
 """cases.py: cases to look for witnesses among, by crate: some of each kind that the public functions tell apart, and some that are drawn, always the same."""
+import math
 import random
 
 FULL = [2**64 - 1] * 4
@@ -421,6 +422,42 @@ def of_growth():
     return found
 
 
+def plain_tables(seed, count):
+    """Texts of tables without jitter and without accesses, whose periods have common multiples that are found soon."""
+    draw, found = random.Random(seed), []
+    for k in range(count):
+        sets, n = draw.choice([4, 4, 8]), draw.randint(1, 4)
+        ways = draw.choice([None, None, 1, 2, 3])
+        lines = [head(sets, draw.choice([0, 1, 1, 2, 3])) if ways is None else "K\t%d\t%d\t%d\n" % (sets, draw.choice([0, 1, 2]), ways)]
+        for i in range(n):
+            period = draw.choice([2, 3, 4, 5, 6, 8, 9, 10, 12, 15, 20, 24, 30])
+            deadline = draw.choice([period, draw.randint(1, period)])
+            blocks = digits(mask(draw, sets), sets) if ways is None else "".join(str(draw.randint(0, ways)) for _ in range(sets))
+            lines.append("T\t%s\t%d\t%d\t%d\t0\t0\t%s\t%s\n" % (name(i), draw.randint(1, max(1, deadline // n)), period, deadline, blocks, digits(mask(draw, sets), sets)))
+        found.append("".join(lines))
+    return found
+
+
+def of_edf():
+    found, draw = [], random.Random(17)
+    for a in (1, 2, 3, 4, 6, 10, 12, 15625, 16000, 250000000):
+        found += ["%s %d %d" % (call, a, b) for call in ("gcd", "lcm") for b in (1, 2, 3, 4, 6, 8, 9, 12, 16000, 250000000)] + ["gcd %d 0" % a, "gcd 0 %d" % a]
+    lists = [[], [(2, 4, 6), (3, 5, 10)], [(2, 4, 6), (4, 5, 10)], [(1, 1, 1)], [(2, 1, 1)], [(1, 1, 1), (1, 2, 2)], [(2**63, 1, 1)], [(2**63, 2, 2)], [(2**64 - 1, 5, 5), (1, 2, 3)]]
+    for _ in range(120):
+        n = draw.randint(1, 4)
+        periods = [draw.choice([1, 2, 3, 4, 5, 6, 8, 9, 10, 12, 15, 20, 24, 30]) for _ in range(n)]
+        lists.append([(draw.randint(1, max(1, t // n + draw.randint(0, 1))), draw.choice([t, draw.randint(1, t)]), t) for t in periods])
+    for it in lists:
+        said = ",".join("%d/%d/%d" % task for task in it) or "-"
+        h = math.lcm(*(task[2] for task in it))
+        found += ["%s %s %d" % (call, said, many * h) for call in ("decide", "first_overrun") for many in (1, 2)]
+        found += ["hyperperiod %s" % said] + ["bound_within %s %d" % (said, x) for x in (0, 1, 2, 3, 4, 5, 6, 7, 10, 20, h - 1, h)]
+        found += ["last_overrun %s %d %d" % (said, a, b) for a, b in ((0, h + 1), (0, 5), (1, 9), (3, 4), (2, h), (7, 3), (4, 4), (0, 1))]
+    for t in ("1/1/1", "1/4/6", "1/6/6", "2/1/10", "1/250000000/250000000"):
+        found += ["jobs %s %d" % (t, x) for x in (0, 1, 2, 3, 4, 5, 6, 7, 10, 11, 12, 16, 249999999, 250000000)]
+    for s, t in ((15625, 16000), (2, 250000000), (125000000, 250000000), (3, 250000000), (15859, 15881)):
+        found += ["hyperperiod 1/%d/%d,1/%d/%d" % (s, s, t, t), "hyperperiod 1/%d/%d,1/%d/%d,1/2/2" % (s, s, t, t), "hyperperiod 1/1/1,1/%d/%d,1/%d/%d" % (s, s, t, t)]
+    found += ["charged_tasks %s" % text(it) for it in plain_tables(18, 60) + [it for it, _ in tables(19, 20)] + [THREE, COUNTED.rsplit("A", 1)[0]]]
 TABLE_P = head(4, 0) + "T\ta\t2\t5\t5\t0\t0\t0\t0\nT\tb\t3\t8\t8\t%d\t0\t0\t0\n"
 # two accesses may block b, and its own number is left open
 TABLE_Y = head(4, 1) + "T\ta\t1\t5\t5\t0\t0\t0\tf\nT\tb\t1\t20\t20\t0\t0\t0\t0\nT\tc\t1\t100\t100\t0\t0\t0\t0\nA\tc\tb\t4\t0\nA\tc\tb\t1\t3\n"
@@ -458,6 +495,16 @@ def operations(seed, count):
     return [THREE, THREE + "A\tc\ta\t5\t3\n", *(it for it, _ in tables(seed, count)), *texts()[::23], "", "a", "K\t4\t1\n", "K\t4\t1\nU\n", THREE + "U\n"]
 
 
+def deadline_refusals():
+    """Texts that are refused for a jitter, an access or long periods, and for two of these."""
+    plain = "T\ta\t1\t20\t20\t%d\t0\t0\tf\nT\tb\t1\t%d\t20\t%d\t0\t0\tf\n"
+    found = []
+    for jitters in ((0, 0), (1, 0), (0, 1), (2, 1), (20, 20)):
+        for period in (20, 249999999):
+            found += [head(4, 1) + plain % (jitters[0], period, jitters[1]) + more for more in ("", "A\tb\ta\t5\t3\n", "A\tb\ta\t5\t3\n" * 3)]
+    return found
+
+
 def of_crpd(prefix="", seed=11):
     found = []
     for it in operations(seed, 40):
@@ -470,6 +517,7 @@ def of_crpd(prefix="", seed=11):
         found += ["%s%s %s %d" % (prefix, call, said, size) for call in ("report", "rewrite") for size in (0, 1, 30, 9293)]
         found += ["crpd_print %s %d" % (said, size) for size in (0, 3, 6, 2746)] if prefix else ["print %s" % said]
         found += ["%srewrite %s %d" % (prefix, said, size) for size in (len(it) - 1, len(it), len(it) + 1) if size >= 0]
+    found += ["%sedf %s" % (prefix, text(it)) for it in operations(seed, 40) + plain_tables(seed, 60) + deadline_refusals()]
     for it, n in [(TABLE_P % 0, 2), (TABLE_P % 2, 2), (TABLE_Y, 3), (THREE, 3)]:
         found += ["%scheck %s %s %d %d" % (prefix, text(it), text(one), m, size) for one in lists(n) for m in (0, 2, 5, 6) for size in (0, 15, 640)]
     found += ["%scheck %s %s %d 640" % (prefix, text(it), text(lists(3)[0]), m) for it in ("", "a", THREE[:-1], THREE + "U\n") for m in (0, 6)]
@@ -478,7 +526,7 @@ def of_crpd(prefix="", seed=11):
     if not prefix:
         for change in CHANGES:
             found += ["write %s %s %d" % (text(THREE), change, size) for size in (0, 9293)]
-        found += ["code_number %d" % n for n in (0, 1, 5, 2**32, 2**64 - 1)] + ["code_length %d" % n for n in (0, 1, 5, 2**32)] + ["code_within %d" % n for n in (0, 1, 5, 250000000)] + ["code_none"] + ["code_refusal %d %d" % (k, line) for k in range(4) for line in (0, 1, 33, 16385)]
+        found += ["code_number %d" % n for n in (0, 1, 5, 2**32, 2**64 - 1)] + ["code_length %d" % n for n in (0, 1, 5, 2**32)] + ["code_within %d" % n for n in (0, 1, 5, 250000000)] + ["code_none", "code_yes", "code_no"] + ["code_refusal %d %d" % (k, line) for k in range(4) for line in (0, 1, 33, 16385)]
     return found
 
 

@@ -1,10 +1,11 @@
 // What the public functions of `crpd` answer.
 use crate::codes::code;
-use crate::{answer, check, explain, growth, print, report, rewrite, scaled, write};
+use crate::{answer, check, edf, explain, growth, print, report, rewrite, scaled, write};
 use cache::units::Ticks;
+use deadlines::Verdict;
 use search::demand::Response;
 use table::refusals::{Reason, Refusal};
-use ::{cache, table};
+use ::{cache, edf as deadlines, table};
 
 #[path = "common.rs"]
 mod common;
@@ -49,6 +50,7 @@ fn told(name: &str, args: &mut Args) -> String {
             let (text, method, mut out) = (args.bytes(), args.number(), args.buffer());
             filled(scaled(&text, method, &mut out), &out)
         }
+        "edf" => show(edf(&args.bytes())),
         "check" => {
             let (text, list, method, mut out) =
                 (args.bytes(), args.bytes(), args.number(), args.buffer());
@@ -66,6 +68,8 @@ fn told(name: &str, args: &mut Args) -> String {
             args.number(),
         ))))),
         "code_none" => show(code(Ok::<Response, Refusal>(Response::Unschedulable))),
+        "code_yes" => show(code(Ok::<Verdict, Refusal>(Verdict::Yes))),
+        "code_no" => show(code(Ok::<Verdict, Refusal>(Verdict::No))),
         "code_refusal" => show(code(Err::<u64, Refusal>(refusal(args)))),
         _ => unknown(name),
     }

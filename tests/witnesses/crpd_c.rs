@@ -1,6 +1,7 @@
 // What the exported functions answer.
 use crate::{
-    crpd_answer, crpd_check, crpd_explain, crpd_growth, crpd_print, crpd_report, crpd_rewrite, crpd_scaled,
+    crpd_answer, crpd_check, crpd_edf, crpd_explain, crpd_growth, crpd_print, crpd_report, crpd_rewrite,
+    crpd_scaled,
 };
 
 #[path = "common.rs"]
@@ -28,6 +29,7 @@ fn answer(name: &str, args: &mut Args) -> String {
             let (text, method, mut out) = (args.bytes(), args.number(), args.buffer());
             filled(crpd_scaled(&text, method, &mut out), &out)
         }
+        "crpd_edf" => show(crpd_edf(&args.bytes())),
         "crpd_check" => {
             let (text, list, method, mut out) =
                 (args.bytes(), args.bytes(), args.number(), args.buffer());

@@ -1,8 +1,9 @@
 //! Prints the response of every task of a table under every method, then the report, and then why
 //! combined (method 5) answers for the last task what it does, and after that the table itself, read and
 //! written again. Then comes how much growth is left under every method, and the table with the growth that
-//! combined leaves. The table is read from standard input. Then comes the same explanation for a task that
-//! an access to a shared device may block, and last what is found of a list of responses of that table.
+//! combined leaves, and then whether it is schedulable by earliest deadline first. The table is read from
+//! standard input. Then comes the same explanation for a task that an access to a shared device may block,
+//! and last what is found of a list of responses of that table.
 use std::io::{Read, Write};
 
 /// b and c share a device. While c has it, for 2 ticks, b waits, and a may pre-empt c.
@@ -57,6 +58,11 @@ fn main() -> std::io::Result<()> {
     let length =
         crpd::scaled(&text, 5, &mut out).expect("an accepted table is scaled, and it fits");
     std::io::stdout().write_all(&out[..length])?;
+    let schedulable = crpd::edf(&text).expect("it has no jitter and no access line");
+    println!(
+        "earliest deadline first: {}",
+        if schedulable { "yes" } else { "no" }
+    );
     let length = crpd::explain(SHARED, 5, 1, &mut out)
         .expect("it has a second task, whose explanation fits");
     std::io::stdout().write_all(&out[..length])?;

@@ -47,13 +47,14 @@ extern "C" {
         out: *mut u8,
         out_len: usize,
     ) -> u64;
+    fn crpd_edf(text: *const u8, text_len: usize) -> u64;
     fn crpd_print(text: *const u8, text_len: usize, out: *mut u8, out_len: usize) -> u64;
 }
 
 /// A refusal's number, and the line that it tells (0 where it tells none). Those of a text are 1 to 11
 /// and 17, 15 and 16 where it has access lines, and 18 where it names the ways; 12 and 13 are those of a
-/// method and a position, 19 and 20 those of a partner's list, and 14 that of a buffer. docs/RULES.md says
-/// when each is given.
+/// method and a position, 19 and 20 those of a partner's list, 21 to 23 those of a table that earliest
+/// deadline first is not asked of, and 14 that of a buffer. docs/RULES.md says when each is given.
 #[derive(Clone, Copy, Debug, PartialEq, Eq)]
 pub struct Refusal {
     pub number: u32,
@@ -129,6 +130,15 @@ pub fn check(text: &[u8], list: &[u8], method: u64, out: &mut [u8]) -> Result<us
     let (table, len) = (text.as_ptr(), text.len());
     let written = unsafe { crpd_check(table, len, claims, count, method, start, room) };
     told(written).map(|length| length as usize)
+}
+
+/// Whether the tasks are schedulable by earliest deadline first. Each job is charged its own C and, for its
+/// pre-emptions by each task with a smaller deadline, what it has to reload after them. They are exactly if
+/// at every whole time the jobs that are released and due within that time ask for no more than it. No task
+/// may have a jitter, and the table no access line; and the least common multiple of the periods may not be
+/// above 250,000,000.
+pub fn edf(text: &[u8]) -> Result<bool, Refusal> {
+    told(unsafe { crpd_edf(text.as_ptr(), text.len()) }).map(|verdict| verdict == 1)
 }
 
 /// What the program `crpd-report` prints: the report, or the line of the text's refusal.

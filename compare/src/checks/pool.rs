@@ -25,12 +25,13 @@ pub enum Operation {
     Growth(u64),
     Scaled(u64),
     Check(u64),
+    Edf,
 }
 
-use Operation::{Answer, Check, Explain, Growth, Print, Report, Rewrite, Scaled};
+use Operation::{Answer, Check, Edf, Explain, Growth, Print, Report, Rewrite, Scaled};
 
 impl Operation {
-    pub const NAMES: [&'static str; 8] = [
+    pub const NAMES: [&'static str; 9] = [
         "report",
         "print",
         "answer",
@@ -39,6 +40,7 @@ impl Operation {
         "growth",
         "scaled table",
         "words of a list",
+        "verdict by deadlines",
     ];
 
     pub fn name(self) -> &'static str {
@@ -51,6 +53,7 @@ impl Operation {
             Growth(_) => 5,
             Scaled(_) => 6,
             Check(_) => 7,
+            Edf => 8,
         };
         Operation::NAMES[place]
     }
@@ -65,12 +68,13 @@ impl Operation {
             Growth(method) => library::growth(text, method),
             Scaled(method) => library::scaled(text, method, out),
             Check(method) => library::check(text, list, method, out),
+            Edf => library::edf(text),
         }
     }
 
     /// Whether the number that is returned tells how much was written.
     fn writes(self) -> bool {
-        !matches!(self, Answer(..) | Growth(_))
+        !matches!(self, Answer(..) | Growth(_) | Edf)
     }
 }
 
@@ -150,7 +154,7 @@ pub struct Call<'a> {
 }
 
 /// How many calls of a text are made.
-pub const CALLS: usize = 10;
+pub const CALLS: usize = 11;
 
 impl<'a> Call<'a> {
     /// Every operation on a text, by any method up to one past the last, and for any position up to some
@@ -170,6 +174,7 @@ impl<'a> Call<'a> {
             Growth(methods[2]),
             Scaled(methods[3]),
             Check(methods[4]),
+            Edf,
         ];
         operations.map(|operation| Call {
             text,
@@ -206,6 +211,7 @@ impl<'a> Call<'a> {
                 Ok(checked) => Given::text(fitting(checked.text.as_bytes(), room)),
                 Err(refusal) => Given::text(Err(refusal)),
             },
+            Edf => Given::number(outcome.edf().map_or_else(Refusal::code, u64::from)),
             Growth(_) | Scaled(_) => return None,
         })
     }

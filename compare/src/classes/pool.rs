@@ -22,6 +22,19 @@ const OF_PAIR: [OfPair; 4] = [
     }),
 ];
 
+/// The refusals of calls.
+const OF_CALLS: [Option<u64>; 9] = [
+    None,
+    Some(12),
+    Some(13),
+    Some(14),
+    Some(19),
+    Some(20),
+    Some(21),
+    Some(22),
+    Some(23),
+];
+
 const BY_TWO: &str = "a text asked by two workers";
 const BY_ALL_AT_ONCE: &str = "a text asked by all workers at once";
 const CALL_AT_ONCE: &str = "the same call by two workers at once";
@@ -32,7 +45,7 @@ pub fn all() -> Names {
     for operation in Operation::NAMES {
         names.extend([true, false].map(|is_given| of_operation(operation, is_given)));
     }
-    names.extend([None, Some(12), Some(13), Some(14), Some(19), Some(20)].map(refused));
+    names.extend(OF_CALLS.map(refused));
     names
 }
 
@@ -79,7 +92,7 @@ pub fn reached_in_step(calls: &[Call], logs: &[Vec<Made>]) -> Names {
 
 /// The refusals that are not of the text.
 fn asked_too_much(number: u64) -> Option<u64> {
-    Some(number).filter(|number| matches!(number, 12..=14 | 19 | 20))
+    Some(number).filter(|number| matches!(number, 12..=14 | 19..=23))
 }
 
 fn refused(number: Option<u64>) -> String {

@@ -85,6 +85,7 @@ impl Comparison {
         let common = spread(&valid.common, share(500)).chain(spread(refused, share(200)));
         let longest = spread(&valid.extreme, share(60)).chain(&valid.worst);
         texts.extend(common.chain(longest).cloned());
+        texts.retain(|text| generate::is_soon_told(&Outcome::of(text, None)));
         let lists = self.lists_for(&texts);
         let (calls, alone) = self.alone(&texts, &lists);
         let mut group = Group::new("calls by several workers, in any order");

@@ -245,6 +245,42 @@ pub enum Error {
     PassesSurplus,
     /// 123: 0 is taken for `-`.
     TakesZeroForNone,
+    /// 124: by deadlines, the demand bound has ⌊(t - D) / T⌋ jobs.
+    CountsJobTooFew,
+    /// 125: by deadlines, the demand bound has to be smaller than the time.
+    WantsSmallerBound,
+    /// 126: by deadlines, only the first two periods are looked at.
+    TakesFirstTwoPeriods,
+    /// 127: by deadlines, a task is charged once for each with the same deadline.
+    ChargesAtEqualDeadline,
+    /// 128: by deadlines, only the first deadline of each task is looked at.
+    LooksAtFirstDeadlines,
+    /// 129: by deadlines, nothing is charged.
+    ChargesNothing,
+    /// 130: by deadlines, a task is charged once for each with a smaller deadline.
+    ChargesOnce,
+    /// 131: by deadlines, a task is charged ⌊(D - D') / T'⌋ times.
+    RoundsChargesDown,
+    /// 132: by deadlines, what the other task has in the task's ECB is charged.
+    ChargesTheOtherWay,
+    /// 133: by deadlines, a task is charged for each with a larger deadline.
+    ChargesLargerDeadlines,
+    /// 134: by deadlines, a set is charged once, whatever it counts.
+    CountsSetsForBlocks,
+    /// 135: by deadlines, the product of the periods stands for their least common multiple.
+    MultipliesPeriods,
+    /// 136: by deadlines, 22 comes before 21.
+    LooksAtAccessesFirst,
+    /// 137: by deadlines, 21 tells the last line with a jitter.
+    TellsLastJitter,
+    /// 138: by deadlines, 22 tells the last access line.
+    TellsLastAccess,
+    /// 139: by deadlines, 23 comes before 21 and 22.
+    LooksAtPeriodsFirst,
+    /// 140: by deadlines, 23 is given for a least common multiple of 250,000,000.
+    RefusesLastMultiple,
+    /// 141: by deadlines, the least common multiple is cut to 32 bits.
+    CutsMultipleTo32Bits,
 }
 
 /// What of the model an error is built into.
@@ -263,13 +299,16 @@ pub enum Part {
     Relating,
     /// Holding a list of bounds against the equations.
     Checking,
+    /// The verdict where the earliest deadline comes first.
+    ByDeadline,
 }
 
 use Part::{
-    Answering, Checking, Explaining, Growing, Reading, Relating, Summing, Working, Writing,
+    Answering, ByDeadline, Checking, Explaining, Growing, Reading, Relating, Summing, Working,
+    Writing,
 };
 
-const ERRORS: [(&str, Error, Part); 124] = [
+const ERRORS: [(&str, Error, Part); 142] = [
     ("1", Error::StartsFromGuess, Answering),
     ("2", Error::JudgesAtLimit, Answering),
     ("3", Error::CombinesPerPair, Answering),
@@ -394,6 +433,24 @@ const ERRORS: [(&str, Error, Part); 124] = [
     ("121", Error::LooksAtListFirst, Checking),
     ("122", Error::PassesSurplus, Checking),
     ("123", Error::TakesZeroForNone, Checking),
+    ("124", Error::CountsJobTooFew, ByDeadline),
+    ("125", Error::WantsSmallerBound, ByDeadline),
+    ("126", Error::TakesFirstTwoPeriods, ByDeadline),
+    ("127", Error::ChargesAtEqualDeadline, ByDeadline),
+    ("128", Error::LooksAtFirstDeadlines, ByDeadline),
+    ("129", Error::ChargesNothing, ByDeadline),
+    ("130", Error::ChargesOnce, ByDeadline),
+    ("131", Error::RoundsChargesDown, ByDeadline),
+    ("132", Error::ChargesTheOtherWay, ByDeadline),
+    ("133", Error::ChargesLargerDeadlines, ByDeadline),
+    ("134", Error::CountsSetsForBlocks, ByDeadline),
+    ("135", Error::MultipliesPeriods, ByDeadline),
+    ("136", Error::LooksAtAccessesFirst, ByDeadline),
+    ("137", Error::TellsLastJitter, ByDeadline),
+    ("138", Error::TellsLastAccess, ByDeadline),
+    ("139", Error::LooksAtPeriodsFirst, ByDeadline),
+    ("140", Error::RefusesLastMultiple, ByDeadline),
+    ("141", Error::CutsMultipleTo32Bits, ByDeadline),
 ];
 
 impl Error {

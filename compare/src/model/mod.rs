@@ -5,11 +5,13 @@
 //! is found by trying every number where the limit is small, each access that may block a task has an
 //! equation of its own, whether a text gives a table value is found by reading what the value spells,
 //! and a growth by reading the table of every k. The members of a sum or of a union may be taken in any
-//! order. A bound that somebody else gives is put into the equations, and nothing is searched for.
+//! order. A bound that somebody else gives is put into the equations, and nothing is searched for. Where the earliest deadline comes first the demand
+//! bound is asked at every whole time, or at every deadline where there are too many.
 
 mod blocking;
 mod check;
 mod costs;
+mod edf;
 mod error;
 mod explain;
 mod growth;
@@ -24,6 +26,7 @@ mod write;
 
 pub use check::{Checked, Checks, Word};
 pub use costs::METHODS;
+pub use edf::{Product, MULTIPLE_MOST};
 pub use error::{Error, Part};
 pub use explain::{Case, Explanation, Interference, FIGURE_MOST};
 pub use growth::{Growing, Growths, GROWTH_MOST};
@@ -167,6 +170,17 @@ impl Outcome {
     pub fn checks(&self) -> Checks<'_> {
         let accepted = self.accepted.as_ref().map_err(|refusal| *refusal);
         Checks::new(accepted.map(|(table, _)| table), self.error)
+    }
+
+    /// What the verdict rests on where the earliest deadline comes first.
+    pub fn product(&self) -> Result<Product<'_>, Refusal> {
+        let accepted = self.accepted.as_ref().map_err(|refusal| *refusal);
+        Product::of(&accepted?.0, self.error)
+    }
+
+    /// The verdict where the earliest deadline comes first.
+    pub fn edf(&self) -> Result<bool, Refusal> {
+        self.product().map(|product| product.verdict())
     }
 
     pub fn explanations(&self) -> Explanations<'_> {
