@@ -112,5 +112,11 @@ done
 for error in 136 137 139; do
     find_error 'tables refused by deadlines for a known reason' "$error" 10
 done
+for error in 142 143 144 145 146 147 148 149 150 153 154; do
+    find_error 'replays tick by tick' "$error" 10
+done
+for error in 151 152; do
+    find_error 'replays refused for a known reason' "$error" 10
+done
 printf '%s passed, %s failed\n' "$passed" "$failed"
 [ "$failed" = 0 ]

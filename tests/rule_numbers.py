@@ -24,6 +24,9 @@ LIMITS = [
     ("ROOM", "crates/writing/src/writer.rt", ["docs/LIBRARY.md", "bindings/c/crpd.h", "bindings/rust/src/lib.rs"]),
     ("LONGEST_EXPLANATION", "crates/report/src/explanation.rt", ["docs/RULES.md", "docs/LIBRARY.md", "bindings/c/crpd.h", "bindings/rust/src/lib.rs"]),
     ("LONGEST_FINDINGS", "crates/claims/src/lib.rt", ["docs/RULES.md", "docs/LIBRARY.md", "bindings/c/crpd.h", "bindings/rust/src/lib.rs"]),
+    ("LONGEST_REPLAY", "crates/replay/src/lib.rt", ["docs/RULES.md", "bindings/c/crpd.h", "bindings/rust/src/lib.rs"]),
+    ("PAGE", "crates/replay/src/ticks.rt", ["docs/RULES.md", "bindings/c/crpd.h", "bindings/rust/src/lib.rs"]),
+    ("LONGEST_PAGE", "crates/replay/src/ticks.rt", ["docs/RULES.md", "docs/LIBRARY.md", "bindings/c/crpd.h", "bindings/rust/src/lib.rs"]),
     ("MOST", "crates/growth/src/scaling.rt", ["docs/RULES.md", "bindings/c/crpd.h"]),
 ]
 

@@ -3,8 +3,9 @@
  * Every function takes every text, number and buffer, and answers one number. Below 2^32 it is the
  * answer; from 2^32 on it is a refusal, whose number and line the functions at the end take out. The
  * refusals of a text are 1 to 11 and 17, 15 and 16 where it has access lines, and 18 where line 1 names
- * the ways; 12 and 13 are those of a method and a position, 19 and 20 those of a partner's list, 21 to 23 those
- * of a table that earliest deadline first is not asked of, and 14 that of a buffer. docs/RULES.md says when each is given.
+ * the ways; 12 and 13 are those of a method and a position, 19 and 20 those of a partner's list, 21 to 23
+ * those of a table that earliest deadline first is not asked of, 21, 22 and 24 those of a replay, and 14 that
+ * of a buffer. docs/RULES.md says when each is given.
  *
  * No function keeps anything from one call to the next: the answer, and every byte that is written, come
  * from the text, the numbers and the length of the buffer alone. So calls may be made in any order and by
@@ -27,6 +28,9 @@
 
 /* No accepted table text is longer, access lines and all, and neither is that of a scaled table. */
 #define CRPD_TABLE_MOST 16384
+
+/* No page of ticks is longer. */
+#define CRPD_TICKS_MOST 2000
 
 /* The response, in ticks, of the task at a position (from 0) under a method (0 to 5), or 0 where the
  * task is unschedulable: the largest over the accesses that may block it, if there are any. Method 3 is
@@ -71,6 +75,18 @@ uint64_t crpd_check(const uint8_t *text, size_t text_len, const uint8_t *list, s
  * have a jitter, and the table no access line; and the least common multiple of the periods may not be above
  * 250,000,000. */
 uint64_t crpd_edf(const uint8_t *text, size_t text_len);
+
+/* Replays the table tick by tick, without a word of the equation: all tasks release a job at tick 0 and then every
+ * period, and each tick runs the highest task that has work. The count of ticks, at most 100000, by which the first job
+ * of the task at a position has ended, or 0 where it is unfinished at its deadline. It is what crpd_answer gives under
+ * method 0. Refused are a table with a jitter above 0 (21) and one with an access line (22), and, behind 13, a deadline
+ * of the task above 100000 (24). */
+uint64_t crpd_replay(const uint8_t *text, size_t text_len, uint64_t position);
+
+/* The length of the lines that say which task runs in each of 100 ticks of that replay, from one on, as far as a replay
+ * goes, which then stand at the start of out: a tick, and the name of the task, or - where none has work. What follows
+ * them in out, and all of out where they are refused, stays as it was. */
+uint64_t crpd_ticks(const uint8_t *text, size_t text_len, uint64_t from, uint8_t *out, size_t out_len);
 
 /* As crpd_report, for what the program crpd-report prints: the report, or the line of the text's refusal. Its
  * only refusal is 14, where out is too short. */

@@ -1,9 +1,10 @@
 /* Prints the response of every task of a table under every method, then the report, and then why combined
  * (method 5) answers for the last task what it does, and after that the table itself, read and written again.
  * Then comes how much growth is left under every method, and the table with the growth that combined leaves.
- * Then comes whether it is schedulable by earliest deadline first. The table is read from standard input. Then
- * comes the same explanation for a task that an access to a shared device may block, and last what is found of a
- * list of responses of that table. */
+ * Then comes whether it is schedulable by earliest deadline first, when the first job of the last task ends in
+ * a replay, and the last three ticks of it. The table is read from standard input. Then comes the same
+ * explanation for a task that an access to a shared device may block, and last what is found of a list of
+ * responses of that table. */
 #include <stdio.h>
 
 #include "crpd.h"
@@ -69,6 +70,14 @@ int main(void) {
     if (crpd_is_refusal(verdict))
         return refused(verdict);
     printf("earliest deadline first: %s\n", verdict == 1 ? "yes" : "no");
+    uint64_t end = crpd_replay(text, len, position - 1);
+    if (crpd_is_refusal(end))
+        return refused(end);
+    printf("replay: %u\n", (unsigned)end);
+    written = crpd_ticks(text, len, 99997, out, sizeof out);
+    if (crpd_is_refusal(written))
+        return refused(written);
+    fwrite(out, 1, (size_t)written, stdout);
     written = crpd_explain((const uint8_t *)shared, sizeof shared - 1, 5, 1, out, sizeof out);
     if (crpd_is_refusal(written))
         return refused(written);

@@ -5,6 +5,7 @@ pub mod growths;
 pub mod laws;
 pub mod lists;
 pub mod pool;
+pub mod replays;
 pub mod sets;
 pub mod sums;
 

@@ -10,6 +10,7 @@ mod laws;
 mod lists;
 mod pool;
 mod reasons;
+mod replays;
 mod spelled;
 mod values;
 
@@ -123,7 +124,7 @@ impl Classes {
     /// With every class that has to be reached, besides the plans of spoiled texts.
     pub fn new() -> Classes {
         let mut classes = Classes::default();
-        for number in (1..=23).chain([25]) {
+        for number in 1..=25 {
             classes.require(&refusal_name(number));
         }
         let names = OF_ASKING.into_iter().chain(OF_WRITING);
@@ -142,6 +143,7 @@ impl Classes {
             laws::all(),
             lists::all(),
             deadlines::all(),
+            replays::all(),
         ];
         for name in further.iter().flatten() {
             classes.require(name);
@@ -257,6 +259,13 @@ impl Classes {
     /// By a text that was asked for the verdict by deadlines.
     pub fn reach_by_deadlines(&mut self, outcome: &Outcome) {
         for name in deadlines::reached(outcome) {
+            self.reach(&name);
+        }
+    }
+
+    /// By a text that was asked for the replays of all its tasks.
+    pub fn reach_replays(&mut self, outcome: &Outcome) {
+        for name in replays::reached(outcome) {
             self.reach(&name);
         }
     }

@@ -5,10 +5,12 @@ mod altered;
 mod deadlines;
 mod fields;
 mod lists;
+mod replays;
 
 pub use altered::{about_longest, altered};
 pub use deadlines::{deadline_plans, DeadlinePlan};
 pub use lists::{list_plans, ListPlan, SpoiledList};
+pub use replays::{replay_plans, ReplayPlan};
 
 use crate::generate::{text_of, Lines, Table, BASES};
 use crate::model::{Form, Refusal, ACCESSES_MOST, TASKS_MOST, TEXT_MOST};

@@ -5,6 +5,7 @@ mod counted;
 mod deadlines;
 mod growths;
 mod lists;
+mod replays;
 
 pub use counted::{longest_explanation as longest_counted_explanation, longest_with_counts};
 
@@ -40,6 +41,9 @@ pub enum Expected {
     /// Where the earliest deadline comes first.
     Verdict(bool),
     NoVerdict(Refusal),
+    /// Position, and the end in ticks of the first job, 0 where it is unfinished at its deadline.
+    Replay(u64, u64),
+    NoReplay(u64, Refusal),
 }
 
 /// Room for every report, every explanation and every table.
@@ -126,6 +130,16 @@ impl Figure {
             Expected::NoVerdict(refusal) => {
                 let given = library::edf(text) == refusal.code();
                 [outcome.edf() == Err(*refusal), given]
+            }
+            Expected::Replay(position, expected) => {
+                let replay = outcome.replay(*position);
+                let end = replay.map(|replay| replay.end.unwrap_or(0));
+                let given = library::replay(text, *position) == *expected;
+                [end == Ok(*expected), given]
+            }
+            Expected::NoReplay(position, refusal) => {
+                let given = library::replay(text, *position) == refusal.code();
+                [outcome.replay(*position) == Err(*refusal), given]
             }
             Expected::Words(method, list, expected) => {
                 words(*method, list).map(|words| words == *expected)
@@ -306,6 +320,7 @@ pub fn all() -> Vec<Figure> {
     figures.extend(growths::all());
     figures.extend(lists::all());
     figures.extend(deadlines::all());
+    figures.extend(replays::all());
     figures
 }
 

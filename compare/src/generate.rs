@@ -10,6 +10,7 @@ mod keeping;
 mod lists;
 mod measuring;
 mod published;
+mod replays;
 
 pub use accesses::ACCESSES_MOST;
 pub use adding::{nearly_full, with_line};
@@ -33,6 +34,7 @@ pub use published::{
     count_as_published, hardly_a_tick_left, hardly_a_tick_left_if_blocked, no_tick_left, published,
     share_as_published,
 };
+pub use replays::{keeping_work, long_replayed, replayed};
 
 use crate::model::{Form, TEXT_MOST, WAYS_MOST};
 use crate::random::Random;

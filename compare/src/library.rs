@@ -3,10 +3,10 @@
 
 #[cfg(not(feature = "library"))]
 pub use crate::plain::{
-    answer, check, edf, explain, growth, print, report, rewrite, scaled, write_value,
+    answer, check, edf, explain, growth, print, replay, report, rewrite, scaled, write_value,
 };
 #[cfg(feature = "library")]
-pub use linked::{answer, check, edf, explain, growth, print, report, rewrite, scaled};
+pub use linked::{answer, check, edf, explain, growth, print, replay, report, rewrite, scaled};
 #[cfg(feature = "values")]
 pub use values::write_value;
 
@@ -51,6 +51,7 @@ mod linked {
             out_len: usize,
         ) -> u64;
         fn crpd_edf(text: *const u8, text_len: usize) -> u64;
+        fn crpd_replay(text: *const u8, text_len: usize, position: u64) -> u64;
     }
 
     pub fn answer(text: &[u8], method: u64, position: u64) -> u64 {
@@ -100,6 +101,11 @@ mod linked {
     pub fn edf(text: &[u8]) -> u64 {
         // SAFETY: the pointer and length are of one slice that lives over the call
         unsafe { crpd_edf(text.as_ptr(), text.len()) }
+    }
+
+    pub fn replay(text: &[u8], position: u64) -> u64 {
+        // SAFETY: the pointer and length are of one slice that lives over the call
+        unsafe { crpd_replay(text.as_ptr(), text.len(), position) }
     }
 }
 

@@ -23,6 +23,8 @@ mod laws;
 mod lists;
 #[path = "main/pool.rs"]
 mod pool;
+#[path = "main/replays.rs"]
+mod replays;
 #[path = "main/sums.rs"]
 mod sums;
 
@@ -115,6 +117,7 @@ impl Comparison {
                     self.lines_changed();
                 }
                 Part::ByDeadline => self.by_deadlines(&valid, &[]),
+                Part::Replaying => self.replays(&valid, &[]),
                 Part::Checking => {
                     self.bounds(&valid);
                     self.refused_lists(&valid, &[b"K\n".to_vec()]);
@@ -150,6 +153,7 @@ impl Comparison {
         self.refused_lists(&valid, &refused);
         self.list_rooms(&valid, &refused);
         self.by_deadlines(&valid, &refused);
+        self.replays(&valid, &refused);
         self.close(self.order.clone());
         if self.options.percent == 100 {
             self.class_counts();

@@ -4,7 +4,7 @@ use crate::generate::TIME_MOST;
 use crate::library;
 use crate::model::Error;
 
-pub const USAGE: &str = "usage: compare [--error 1 to 141 or 5b] [--percent N] [--longest TICKS]";
+pub const USAGE: &str = "usage: compare [--error 1 to 154 or 5b] [--percent N] [--longest TICKS]";
 
 pub struct Options {
     pub error: Option<Error>,

@@ -7,6 +7,7 @@ mod edf;
 mod explain;
 mod growth;
 mod reading;
+mod replay;
 mod table;
 
 pub use check::check;
@@ -14,6 +15,7 @@ pub use edf::edf;
 pub use explain::{explain, explain_within};
 pub use growth::{growth, scaled};
 pub use reading::read;
+pub use replay::replay;
 pub use table::{rewrite, spell, write_value};
 
 use blocks::{Blocks, Counted, Counts, Marked, Words};

@@ -458,6 +458,9 @@ def of_edf():
     for s, t in ((15625, 16000), (2, 250000000), (125000000, 250000000), (3, 250000000), (15859, 15881)):
         found += ["hyperperiod 1/%d/%d,1/%d/%d" % (s, s, t, t), "hyperperiod 1/%d/%d,1/%d/%d,1/2/2" % (s, s, t, t), "hyperperiod 1/1/1,1/%d/%d,1/%d/%d" % (s, s, t, t)]
     found += ["charged_tasks %s" % text(it) for it in plain_tables(18, 60) + [it for it, _ in tables(19, 20)] + [THREE, COUNTED.rsplit("A", 1)[0]]]
+    return found
+
+
 TABLE_P = head(4, 0) + "T\ta\t2\t5\t5\t0\t0\t0\t0\nT\tb\t3\t8\t8\t%d\t0\t0\t0\n"
 # two accesses may block b, and its own number is left open
 TABLE_Y = head(4, 1) + "T\ta\t1\t5\t5\t0\t0\t0\tf\nT\tb\t1\t20\t20\t0\t0\t0\t0\nT\tc\t1\t100\t100\t0\t0\t0\t0\nA\tc\tb\t4\t0\nA\tc\tb\t1\t3\n"
@@ -487,6 +490,42 @@ def of_claims():
         found += ["write %s %d %s %d" % (said, m, " ".join(str(draw.choice([5, 7, 9, 13, 20, 40, "-"])) for _ in range(n)), size) for m in METHODS for size in (0, 15, 640)]
     for it, n in [(TABLE_P % 0, 2), (THREE, 3), (many_tasks(32), 32)]:
         found += ["read %s %s" % (text(it), text(one)) for one in (lists(n) if n < 32 else lists(n)[:30])]
+    return found
+
+
+def replayed_tables(seed, count):
+    """Tables without jitter and accesses, some of them with more work than there is time, and how many tasks each has."""
+    draw, found = random.Random(seed), [*((TABLE_P.replace("8\t8", "8\t%d" % d) % 0, 2) for d in (8, 4, 5, 6)), (THREE, 3)]
+    for _ in range(count):
+        n = draw.randint(1, 5)
+        lines = [head(4, 0)]
+        for k in range(n):
+            period = draw.randint(2, 9) * (k + 1)
+            lines.append(task(k, draw.randint(1, max(1, period // 2)), period, draw.randint(max(1, period // 2), period), 0, 0, 0, 0, 4))
+        found.append(("".join(lines), n))
+    return found
+
+
+def long_deadlines():
+    return [head(4, 0) + task(0, work, 200000, deadline, 0, 0, 0, 0, 4) + task(1, 7, 300000, 20, 0, 0, 0, 0, 4) for work, deadline in ((1, 99999), (1, 100000), (1, 100001), (99999, 100000), (100000, 100000), (100001, 100001), (200000, 100000))]
+
+
+def of_replay():
+    found = []
+    for it, n in replayed_tables(17, 60) + [(it, 2) for it in long_deadlines()]:
+        found += ["replay %s %d" % (text(it), i) for i in range(n)]
+    for it, _ in replayed_tables(18, 12):
+        found += ["page %s %d %d" % (text(it), start, size) for start in (0, 1, 7, 100) for size in (0, 5, 2000)]
+    found += ["page %s %d 2000" % (text(TABLE_P % 0), start) for start in (99899, 99900, 99901, 99999, 100000, 100001, 2**64 - 1)]
+    return found
+
+
+def jittery():
+    """Tables with a jitter, or an access, or both, on one line or another."""
+    found = []
+    for jitters in ((0, 0, 0), (1, 0, 0), (0, 1, 0), (0, 0, 2), (0, 3, 1)):
+        it = head(4, 0) + "".join(task(k, 1, 20, 20, j, 0, 0, 0, 4) for k, j in enumerate(jitters))
+        found += [it, it + access(2, 0, 5, 0, 4), it + access(1, 1, 5, 0, 4) + access(2, 0, 5, 0, 4)]
     return found
 
 
@@ -521,12 +560,15 @@ def of_crpd(prefix="", seed=11):
     for it, n in [(TABLE_P % 0, 2), (TABLE_P % 2, 2), (TABLE_Y, 3), (THREE, 3)]:
         found += ["%scheck %s %s %d %d" % (prefix, text(it), text(one), m, size) for one in lists(n) for m in (0, 2, 5, 6) for size in (0, 15, 640)]
     found += ["%scheck %s %s %d 640" % (prefix, text(it), text(lists(3)[0]), m) for it in ("", "a", THREE[:-1], THREE + "U\n") for m in (0, 6)]
+    for it in [it for it, _ in replayed_tables(seed + 20, 6)] + jittery() + long_deadlines()[1:3] + ["", "a", THREE + "U\n"]:
+        found += ["%sreplay %s %d" % (prefix, text(it), i) for i in (0, 1, 2, 3, 2**64 - 1)]
+        found += ["%sticks %s %d %d" % (prefix, text(it), start, size) for start in (0, 3, 2**64 - 1) for size in (0, 9, 2000)]
     for it in long_texts()[:6]:
         found += ["%sreport %s 100" % (prefix, it), "%sanswer %s 6 0" % (prefix, it), "%sanswer %s 0 0" % (prefix, it)] + (["print %s" % it] if not prefix else ["crpd_print %s 100" % it])
     if not prefix:
         for change in CHANGES:
             found += ["write %s %s %d" % (text(THREE), change, size) for size in (0, 9293)]
-        found += ["code_number %d" % n for n in (0, 1, 5, 2**32, 2**64 - 1)] + ["code_length %d" % n for n in (0, 1, 5, 2**32)] + ["code_within %d" % n for n in (0, 1, 5, 250000000)] + ["code_none", "code_yes", "code_no"] + ["code_refusal %d %d" % (k, line) for k in range(4) for line in (0, 1, 33, 16385)]
+        found += ["code_number %d" % n for n in (0, 1, 5, 2**32, 2**64 - 1)] + ["code_length %d" % n for n in (0, 1, 5, 2**32)] + ["code_within %d" % n for n in (0, 1, 5, 250000000)] + ["code_end %d" % n for n in (1, 5, 100000)] + ["code_unfinished", "code_none", "code_yes", "code_no"] + ["code_refusal %d %d" % (k, line) for k in range(4) for line in (0, 1, 33, 16385)]
     return found
 
 

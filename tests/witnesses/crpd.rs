@@ -1,6 +1,8 @@
 // What the public functions of `crpd` answer.
 use crate::codes::code;
-use crate::{answer, check, edf, explain, growth, print, report, rewrite, scaled, write};
+use crate::{
+    answer, check, edf, explain, growth, print, replay, report, rewrite, scaled, ticks, write,
+};
 use cache::units::Ticks;
 use deadlines::Verdict;
 use search::demand::Response;
@@ -56,6 +58,11 @@ fn told(name: &str, args: &mut Args) -> String {
                 (args.bytes(), args.bytes(), args.number(), args.buffer());
             filled(check(&text, &list, method, &mut out), &out)
         }
+        "replay" => show(replay(&args.bytes(), args.number())),
+        "ticks" => {
+            let (text, from, mut out) = (args.bytes(), args.number(), args.buffer());
+            filled(ticks(&text, from, &mut out), &out)
+        }
         "print" => {
             let mut out = [b'~'; 2746];
             let len = print(&args.bytes(), &mut out);
@@ -67,6 +74,10 @@ fn told(name: &str, args: &mut Args) -> String {
         "code_within" => show(code(Ok::<Response, Refusal>(Response::Within(Ticks(
             args.number(),
         ))))),
+        "code_end" => show(code(Ok::<Option<Ticks>, Refusal>(Some(Ticks(
+            args.number(),
+        ))))),
+        "code_unfinished" => show(code(Ok::<Option<Ticks>, Refusal>(None))),
         "code_none" => show(code(Ok::<Response, Refusal>(Response::Unschedulable))),
         "code_yes" => show(code(Ok::<Verdict, Refusal>(Verdict::Yes))),
         "code_no" => show(code(Ok::<Verdict, Refusal>(Verdict::No))),

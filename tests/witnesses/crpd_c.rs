@@ -1,7 +1,7 @@
 // What the exported functions answer.
 use crate::{
-    crpd_answer, crpd_check, crpd_edf, crpd_explain, crpd_growth, crpd_print, crpd_report, crpd_rewrite,
-    crpd_scaled,
+    crpd_answer, crpd_check, crpd_edf, crpd_explain, crpd_growth, crpd_print, crpd_replay, crpd_report,
+    crpd_rewrite, crpd_scaled, crpd_ticks,
 };
 
 #[path = "common.rs"]
@@ -34,6 +34,11 @@ fn answer(name: &str, args: &mut Args) -> String {
             let (text, list, method, mut out) =
                 (args.bytes(), args.bytes(), args.number(), args.buffer());
             filled(crpd_check(&text, &list, method, &mut out), &out)
+        }
+        "crpd_replay" => show(crpd_replay(&args.bytes(), args.number())),
+        "crpd_ticks" => {
+            let (text, from, mut out) = (args.bytes(), args.number(), args.buffer());
+            filled(crpd_ticks(&text, from, &mut out), &out)
         }
         "crpd_print" => {
             let (text, mut out) = (args.bytes(), args.buffer());

@@ -1,9 +1,10 @@
 //! Prints the response of every task of a table under every method, then the report, and then why
 //! combined (method 5) answers for the last task what it does, and after that the table itself, read and
 //! written again. Then comes how much growth is left under every method, and the table with the growth that
-//! combined leaves, and then whether it is schedulable by earliest deadline first. The table is read from
-//! standard input. Then comes the same explanation for a task that an access to a shared device may block,
-//! and last what is found of a list of responses of that table.
+//! combined leaves, whether it is schedulable by earliest deadline first, when the first job of the last task
+//! ends in a replay, and the last three ticks of it. The table is read from standard input. Then comes the same
+//! explanation for a task that an access to a shared device may block, and last what is found of a list of
+//! responses of that table.
 use std::io::{Read, Write};
 
 /// b and c share a device. While c has it, for 2 ticks, b waits, and a may pre-empt c.
@@ -63,6 +64,13 @@ fn main() -> std::io::Result<()> {
         "earliest deadline first: {}",
         if schedulable { "yes" } else { "no" }
     );
+    match crpd::replay(&text, position - 1).expect("it has no jitter and no access") {
+        Some(end) => println!("replay: {end}"),
+        None => println!("replay: 0"),
+    }
+    let length = crpd::ticks(&text, 99_997, &mut out).expect("it is replayed, and the page fits");
+    assert!(length <= crpd::TICKS_MOST);
+    std::io::stdout().write_all(&out[..length])?;
     let length = crpd::explain(SHARED, 5, 1, &mut out)
         .expect("it has a second task, whose explanation fits");
     std::io::stdout().write_all(&out[..length])?;

@@ -17,6 +17,9 @@ pub const FINDINGS_MOST: usize = 640;
 /// No accepted table text is longer, access lines and all, and neither is that of a scaled table.
 pub const TABLE_MOST: usize = 16384;
 
+/// No page of ticks is longer.
+pub const TICKS_MOST: usize = 2000;
+
 #[link(name = "crpd", kind = "static")]
 extern "C" {
     fn crpd_answer(text: *const u8, text_len: usize, method: u64, position: u64) -> u64;
@@ -48,13 +51,22 @@ extern "C" {
         out_len: usize,
     ) -> u64;
     fn crpd_edf(text: *const u8, text_len: usize) -> u64;
+    fn crpd_replay(text: *const u8, text_len: usize, position: u64) -> u64;
+    fn crpd_ticks(
+        text: *const u8,
+        text_len: usize,
+        from: u64,
+        out: *mut u8,
+        out_len: usize,
+    ) -> u64;
     fn crpd_print(text: *const u8, text_len: usize, out: *mut u8, out_len: usize) -> u64;
 }
 
 /// A refusal's number, and the line that it tells (0 where it tells none). Those of a text are 1 to 11
 /// and 17, 15 and 16 where it has access lines, and 18 where it names the ways; 12 and 13 are those of a
 /// method and a position, 19 and 20 those of a partner's list, 21 to 23 those of a table that earliest
-/// deadline first is not asked of, and 14 that of a buffer. docs/RULES.md says when each is given.
+/// deadline first is not asked of, 21, 22 and 24 those of a replay, and 14 that of a buffer. docs/RULES.md
+/// says when each is given.
 #[derive(Clone, Copy, Debug, PartialEq, Eq)]
 pub struct Refusal {
     pub number: u32,
@@ -139,6 +151,25 @@ pub fn check(text: &[u8], list: &[u8], method: u64, out: &mut [u8]) -> Result<us
 /// above 250,000,000.
 pub fn edf(text: &[u8]) -> Result<bool, Refusal> {
     told(unsafe { crpd_edf(text.as_ptr(), text.len()) }).map(|verdict| verdict == 1)
+}
+
+/// Replays the table tick by tick, without a word of the equation: all tasks release a job at tick 0 and then
+/// every period, and each tick runs the highest task that has work. The count of ticks, at most 100,000, by
+/// which the first job of the task at a position has ended, or `None` where it is unfinished at its deadline.
+/// It is what `answer` gives under method 0. Refused are a table with a jitter above 0 (21) and one with an
+/// access line (22), and, behind 13, a deadline of the task above 100,000 (24).
+pub fn replay(text: &[u8], position: u64) -> Result<Option<u32>, Refusal> {
+    let end = told(unsafe { crpd_replay(text.as_ptr(), text.len(), position) })?;
+    Ok(Some(end).filter(|&ticks| ticks != 0))
+}
+
+/// Writes which task runs in each of 100 ticks of that replay, from one on, as far as a replay goes, at the start
+/// of `out` and gives the length: a line for each tick, the tick and the name of the task, or `-` where none has
+/// work. `TICKS_MOST` bytes are always enough. Refused ticks leave `out` as it was.
+pub fn ticks(text: &[u8], from: u64, out: &mut [u8]) -> Result<usize, Refusal> {
+    let (start, room) = (out.as_mut_ptr(), out.len());
+    let written = unsafe { crpd_ticks(text.as_ptr(), text.len(), from, start, room) };
+    told(written).map(|length| length as usize)
 }
 
 /// What the program `crpd-report` prints: the report, or the line of the text's refusal.

@@ -26,12 +26,13 @@ pub enum Operation {
     Scaled(u64),
     Check(u64),
     Edf,
+    Replay(u64),
 }
 
-use Operation::{Answer, Check, Edf, Explain, Growth, Print, Report, Rewrite, Scaled};
+use Operation::{Answer, Check, Edf, Explain, Growth, Print, Replay, Report, Rewrite, Scaled};
 
 impl Operation {
-    pub const NAMES: [&'static str; 9] = [
+    pub const NAMES: [&'static str; 10] = [
         "report",
         "print",
         "answer",
@@ -41,6 +42,7 @@ impl Operation {
         "scaled table",
         "words of a list",
         "verdict by deadlines",
+        "replay",
     ];
 
     pub fn name(self) -> &'static str {
@@ -54,6 +56,7 @@ impl Operation {
             Scaled(_) => 6,
             Check(_) => 7,
             Edf => 8,
+            Replay(_) => 9,
         };
         Operation::NAMES[place]
     }
@@ -69,12 +72,13 @@ impl Operation {
             Scaled(method) => library::scaled(text, method, out),
             Check(method) => library::check(text, list, method, out),
             Edf => library::edf(text),
+            Replay(position) => library::replay(text, position),
         }
     }
 
     /// Whether the number that is returned tells how much was written.
     fn writes(self) -> bool {
-        !matches!(self, Answer(..) | Growth(_) | Edf)
+        !matches!(self, Answer(..) | Growth(_) | Edf | Replay(_))
     }
 }
 
@@ -154,7 +158,7 @@ pub struct Call<'a> {
 }
 
 /// How many calls of a text are made.
-pub const CALLS: usize = 11;
+pub const CALLS: usize = 12;
 
 impl<'a> Call<'a> {
     /// Every operation on a text, by any method up to one past the last, and for any position up to some
@@ -175,6 +179,7 @@ impl<'a> Call<'a> {
             Scaled(methods[3]),
             Check(methods[4]),
             Edf,
+            Replay(positions[0]),
         ];
         operations.map(|operation| Call {
             text,
@@ -212,6 +217,10 @@ impl<'a> Call<'a> {
                 Err(refusal) => Given::text(Err(refusal)),
             },
             Edf => Given::number(outcome.edf().map_or_else(Refusal::code, u64::from)),
+            Replay(position) => Given::number(match outcome.replay(position) {
+                Ok(replay) => replay.end.unwrap_or(0),
+                Err(refusal) => refusal.code(),
+            }),
             Growth(_) | Scaled(_) => return None,
         })
     }

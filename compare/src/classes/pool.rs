@@ -23,7 +23,7 @@ const OF_PAIR: [OfPair; 4] = [
 ];
 
 /// The refusals of calls.
-const OF_CALLS: [Option<u64>; 9] = [
+const OF_CALLS: [Option<u64>; 10] = [
     None,
     Some(12),
     Some(13),
@@ -33,6 +33,7 @@ const OF_CALLS: [Option<u64>; 9] = [
     Some(21),
     Some(22),
     Some(23),
+    Some(24),
 ];
 
 const BY_TWO: &str = "a text asked by two workers";
@@ -92,7 +93,7 @@ pub fn reached_in_step(calls: &[Call], logs: &[Vec<Made>]) -> Names {
 
 /// The refusals that are not of the text.
 fn asked_too_much(number: u64) -> Option<u64> {
-    Some(number).filter(|number| matches!(number, 12..=14 | 19..=23))
+    Some(number).filter(|number| matches!(number, 12..=14 | 19..=24))
 }
 
 fn refused(number: Option<u64>) -> String {

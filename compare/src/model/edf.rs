@@ -42,24 +42,7 @@ impl<'a> Product<'a> {
         if error == Some(Error::LooksAtPeriodsFirst) && multiple_of(table, error).is_none() {
             return Some(Refusal::new(23, 0));
         }
-        let lines = table.tasks.iter().zip(2..);
-        let mut jitters = lines.filter(|(task, _)| task.jitter > 0);
-        let jitter = match error {
-            Some(Error::TellsLastJitter) => jitters.last(),
-            _ => jitters.next(),
-        };
-        let jitter = jitter.map(|(_, line)| Refusal::new(21, line));
-        let first = table.tasks.len() as u64 + 2;
-        let mut lines = first..first + table.accesses.len() as u64;
-        let access = match error {
-            Some(Error::TellsLastAccess) => lines.last(),
-            _ => lines.next(),
-        };
-        let access = access.map(|line| Refusal::new(22, line));
-        match error {
-            Some(Error::LooksAtAccessesFirst) => access.or(jitter),
-            _ => jitter.or(access),
-        }
+        jitter_or_access(table, error)
     }
 
     /// Whether the charged times fit into the multiple of the periods.
@@ -118,6 +101,28 @@ impl<'a> Product<'a> {
     pub fn deadlines(&self) -> u64 {
         let each = self.table.tasks.iter();
         each.map(|task| self.multiple / task.period).sum()
+    }
+}
+
+/// The refusal of the first jitter above 0, or else of the first access.
+pub fn jitter_or_access(table: &Table, error: Option<Error>) -> Option<Refusal> {
+    let lines = table.tasks.iter().zip(2..);
+    let mut jitters = lines.filter(|(task, _)| task.jitter > 0);
+    let jitter = match error {
+        Some(Error::TellsLastJitter) => jitters.last(),
+        _ => jitters.next(),
+    };
+    let jitter = jitter.map(|(_, line)| Refusal::new(21, line));
+    let first = table.tasks.len() as u64 + 2;
+    let mut lines = first..first + table.accesses.len() as u64;
+    let access = match error {
+        Some(Error::TellsLastAccess) => lines.last(),
+        _ => lines.next(),
+    };
+    let access = access.map(|line| Refusal::new(22, line));
+    match error {
+        Some(Error::LooksAtAccessesFirst) => access.or(jitter),
+        _ => jitter.or(access),
     }
 }
 

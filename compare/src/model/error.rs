@@ -281,6 +281,32 @@ pub enum Error {
     RefusesLastMultiple,
     /// 141: by deadlines, the least common multiple is cut to 32 bits.
     CutsMultipleTo32Bits,
+    /// 142: in a replay, a job is lost where the task's next one comes before its end.
+    LosesUnfinished,
+    /// 143: in a replay, the lowest task that has work runs.
+    RunsLowestFirst,
+    /// 144: in a replay, every job is released a tick late.
+    ReleasesTickLate,
+    /// 145: in a replay, the end is counted from 1, so that it is a tick late.
+    CountsEndFromOne,
+    /// 146: in a replay, the number of the last tick is told, which is one less than the end.
+    TellsLastTick,
+    /// 147: in a replay, the first job has up to its period.
+    JudgesByPeriod,
+    /// 148: in a replay, a job that ends at its deadline is late.
+    EndsBeforeDeadline,
+    /// 149: in a replay, 24 is given for a deadline of 100,000.
+    RefusesLastDeadline,
+    /// 150: in a replay, 24 is given for the deadline of any task.
+    LooksAtAnyDeadline,
+    /// 151: in a replay, 13 comes before 21 and 22.
+    LooksAtPositionFirst,
+    /// 152: in a replay, 24 comes before 21 and 22.
+    LooksAtDeadlineFirst,
+    /// 153: in a replay, every task is released once.
+    ReleasesOnce,
+    /// 154: in a replay, a job that has begun runs up to its end.
+    LetsJobsEnd,
 }
 
 /// What of the model an error is built into.
@@ -301,14 +327,15 @@ pub enum Part {
     Checking,
     /// The verdict where the earliest deadline comes first.
     ByDeadline,
+    Replaying,
 }
 
 use Part::{
-    Answering, ByDeadline, Checking, Explaining, Growing, Reading, Relating, Summing, Working,
-    Writing,
+    Answering, ByDeadline, Checking, Explaining, Growing, Reading, Relating, Replaying, Summing,
+    Working, Writing,
 };
 
-const ERRORS: [(&str, Error, Part); 142] = [
+const ERRORS: [(&str, Error, Part); 155] = [
     ("1", Error::StartsFromGuess, Answering),
     ("2", Error::JudgesAtLimit, Answering),
     ("3", Error::CombinesPerPair, Answering),
@@ -451,6 +478,19 @@ const ERRORS: [(&str, Error, Part); 142] = [
     ("139", Error::LooksAtPeriodsFirst, ByDeadline),
     ("140", Error::RefusesLastMultiple, ByDeadline),
     ("141", Error::CutsMultipleTo32Bits, ByDeadline),
+    ("142", Error::LosesUnfinished, Replaying),
+    ("143", Error::RunsLowestFirst, Replaying),
+    ("144", Error::ReleasesTickLate, Replaying),
+    ("145", Error::CountsEndFromOne, Replaying),
+    ("146", Error::TellsLastTick, Replaying),
+    ("147", Error::JudgesByPeriod, Replaying),
+    ("148", Error::EndsBeforeDeadline, Replaying),
+    ("149", Error::RefusesLastDeadline, Replaying),
+    ("150", Error::LooksAtAnyDeadline, Replaying),
+    ("151", Error::LooksAtPositionFirst, Replaying),
+    ("152", Error::LooksAtDeadlineFirst, Replaying),
+    ("153", Error::ReleasesOnce, Replaying),
+    ("154", Error::LetsJobsEnd, Replaying),
 ];
 
 impl Error {

@@ -6,7 +6,7 @@
 //! equation of its own, whether a text gives a table value is found by reading what the value spells,
 //! and a growth by reading the table of every k. The members of a sum or of a union may be taken in any
 //! order. A bound that somebody else gives is put into the equations, and nothing is searched for. Where the earliest deadline comes first the demand
-//! bound is asked at every whole time, or at every deadline where there are too many.
+//! bound is asked at every whole time, or at every deadline where there are too many. A replay goes from tick to tick.
 
 mod blocking;
 mod check;
@@ -18,6 +18,7 @@ mod growth;
 pub mod laws;
 mod order;
 mod read;
+mod replay;
 mod report;
 mod response;
 pub mod value;
@@ -32,6 +33,7 @@ pub use explain::{Case, Explanation, Interference, FIGURE_MOST};
 pub use growth::{Growing, Growths, GROWTH_MOST};
 pub use order::Sum;
 pub use read::{read, Access, Form, Table, Task, ACCESSES_MOST, TASKS_MOST, TEXT_MOST, WAYS_MOST};
+pub use replay::{Replay, REPLAYED_MOST};
 pub use report::{analyse, Analysis, Row};
 pub use worker::Worker;
 pub use write::Writing;
@@ -181,6 +183,12 @@ impl Outcome {
     /// The verdict where the earliest deadline comes first.
     pub fn edf(&self) -> Result<bool, Refusal> {
         self.product().map(|product| product.verdict())
+    }
+
+    /// The replay of the first job of the task at a position.
+    pub fn replay(&self, position: u64) -> Result<Replay, Refusal> {
+        let accepted = self.accepted.as_ref().map_err(|refusal| *refusal);
+        replay::replay(&accepted?.0, position, self.error)
     }
 
     pub fn explanations(&self) -> Explanations<'_> {

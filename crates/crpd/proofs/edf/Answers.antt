@@ -5,12 +5,12 @@ use Rattle.crpd.specs.Operations.{edf_to}
 use Rattle.crpd.proofs.Deadlines.{text_verdict}
 use Rattle.crpd.proofs.edf.Goals as goal
 
-pub returns-in_err-check_jitter-clause-value : goal.returns-in_err-check_jitter-clause-value
+pub returns-in_err-check-clause-value : goal.returns-in_err-check-clause-value
 unfolding edf_to
-returns-in_err-check_jitter-clause-value c = search (err_from_is_err_and, rules)
+returns-in_err-check-clause-value c = search (err_from_is_err_and, rules)
 
-pub returns-in_err-check_jitter-clause-means : goal.returns-in_err-check_jitter-clause-means
-returns-in_err-check_jitter-clause-means c = text_verdict c.args.text.now _ (returns-in_err-check_jitter-clause-value c)
+pub returns-in_err-check-clause-means : goal.returns-in_err-check-clause-means
+returns-in_err-check-clause-means c = text_verdict c.args.text.now _ (returns-in_err-check-clause-value c)
 
 pub returns-clause-value : goal.returns-clause-value
 unfolding edf_to

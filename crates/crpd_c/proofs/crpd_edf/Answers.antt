@@ -1,5 +1,5 @@
 -- A refusal's line is small.
-use Rattle.crpd.proofs.Deadlines.{edf-small}
+use Rattle.crpd.proofs.Small.{edf-small}
 use Rattle.crpd_c.proofs.crpd_edf.Goals as goal
 
 pub code-requires : goal.code-requires

@@ -1,0 +1,5 @@
+pub mod MachineLaws
+pub mod TallyLaws
+pub mod LoopLaws
+pub mod PageLaws
+pub mod Figures

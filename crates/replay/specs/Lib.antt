@@ -1,0 +1,3 @@
+pub mod Replay
+pub mod Tally
+pub mod TickLines
