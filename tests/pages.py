@@ -25,7 +25,7 @@ COPIED = "docs", "examples"  # what commands may write into; all else is lent to
 UNTRIED = {  # the first words of commands that are shown and not run, and why
     ".ci/run": "it runs this test",
     "bindings/try.sh": "a step of the gate",
-    "command/build.sh": "a step of the gate",
+    "crpd": "it is shown as it is installed",
     "install": "it writes into the system",
     "parallel": "it wants hosts; tests/pool.py runs it on one",
     "rt": "it proves",
@@ -164,7 +164,7 @@ class Names:
     def __init__(self):
         self.of = {path: spans(path) for path in files("crates/*/src/**/*.rt", "crates/*/specs/**/*.antt", "crates/*/proofs/**/*.antt")}
         self.all = ELSEWHERE.union(*self.of.values())
-        for path in files("command/src/**/*.rs", "tests/**/*.py", "tools/*", "crates/*", "crates/*/specs/*.antt", "*", ".*"):
+        for path in files("tests/**/*.py", "tools/*", "crates/*", "crates/*/specs/*.antt", "*", ".*"):
             self.all |= {os.path.basename(path), os.path.basename(path).partition(".")[0]}
             if path.endswith((".rs", ".py")):
                 self.all |= set(DECLARED.findall(read(path)))

@@ -1,6 +1,6 @@
 #!/usr/bin/env python3
-"""pool.py [COMMAND..]: runs `crpd reports`, or another command that is to do the same, over folders of tables: by any number of
-workers, killed midway, by several processes at once, over files that cannot be read or written, on a full disk and while the folder
+"""pool.py [COMMAND..]: runs `crpd reports`, or another command that is to do the same, over folders of tables: in any number of
+parts, killed midway, by several processes at once, over files that cannot be read or written, on a full disk and while the folder
 changes. Every report is held to what crpd-report prints of the table alone, and the list to one that is made here. Needs root for a
 small disk, and Debian for GNU parallel. One line for each case; the last line is `N passed, M failed`."""
 import collections
@@ -24,7 +24,7 @@ from cases.builds import (
     worst,
 )
 from common import (
-    COMMAND, SECONDS, build, enlarged, environment, host, installed, must, obeying_modes, on_terminal, run, same, small_disk, spelled,
+    COMMAND, SECONDS, Ended, build, contents, enlarged, environment, host, installed, must, obeying_modes, on_terminal, run, same, small_disk, spelled,
     status_of, tell, write,
 )
 
@@ -45,10 +45,79 @@ def different():
     must(len(builds()) == COUNT, "%d builds", len(builds()))
 
 
-def by_workers(count):
-    with laid(builds()) as folder:
-        for _ in range(2):
-            as_expected(folder, run("reports", "--jobs", str(count), folder), builds())
+def by_parts(count):
+    """Processes that do a part each, all at once; their lists put together, in any order, are the list of one run."""
+    with laid(builds()) as folder, tempfile.TemporaryDirectory() as other:
+        whole = run("reports", folder)
+        as_expected(folder, whole, builds())
+        without_reports(folder)
+        parts = [os.path.join(other, str(number)) for number in range(1, count + 1)]
+        runs = [started(folder, "--part", "%d/%d" % (n, count), "-o", part) for n, part in enumerate(parts, 1)]
+        printed = [process.communicate(timeout=SECONDS) for process in runs]
+        same("what the parts print", [out for out, _ in printed], [b""] * count)
+        numbers = [number_told(err) for _, err in printed]
+        same("how many builds the parts have", (sum(numbers), max(numbers) - min(numbers) < 2), (COUNT, True))
+        all_there(folder, builds())
+        lists = [contents(part) for part in parts]
+        same("the lines of the parts", sorted(b"".join(lists).splitlines()), sorted(whole.out.splitlines()))
+        for files in parts, parts[::-1], random.Random(count).sample(parts, count):
+            same("the list of the parts, and its status", run("lists", *files), Ended(whole.out, b"", worst(builds())))
+        same("the list of the list", run("lists", "-", text=whole.out), Ended(whole.out, b"", worst(builds())))
+
+
+def number_told(err):
+    """How many builds a run had, as the last line of standard error tells it."""
+    return int(re.match(rb"crpd: ([\d,]+) builds? in ", err.splitlines()[-1])[1].replace(b",", b""))
+
+
+def more_parts():
+    """Where there are more parts than builds some have none, and lists of nothing are lists."""
+    made = small(3, 3)
+    with laid(made) as folder:
+        lists = [run("reports", "--part", "%d/5" % n, folder) for n in range(1, 6)]
+        same("the lists", [ended.out.count(b"\n") for ended in lists], [1, 1, 1, 0, 0])
+        files = [write(os.path.join(folder, "list-%d" % n), ended.out) for n, ended in enumerate(lists)]
+        same("the list", run("lists", *files[::-1]).out, listed(made))
+
+
+def no_lists():
+    """What is no list is refused, with the line, and nothing is printed or written."""
+    with tempfile.TemporaryDirectory() as folder:
+        good = write(os.path.join(folder, "good"), b"x.table\tV\tyes\tyes\tyes\tyes\tyes\tyes\n")
+        for text in b"x\n", b"x.table\tV\tyes\n\n", b"x.table\tW\n":
+            bad = write(os.path.join(folder, "bad"), text)
+            ended = run("lists", good, bad)
+            same("the status and standard output", (ended.status, ended.out), (2, b""))
+            must(b"bad: line " in ended.err, "it is told: %r", ended.err)
+        same("the status of what is not there", run("lists", good, os.path.join(folder, "nosuch")).status, 4)
+
+
+def jobs_told():
+    """--jobs does nothing, which is told, with what took its place."""
+    made = some(30)
+    with laid(made) as folder:
+        ended = run("reports", "--jobs", "7", folder)
+        as_expected(folder, ended, made)
+        must(ended.err.startswith(b"crpd: --jobs does nothing: ") and b"--part K/N" in ended.err, "it is told: %.200r", ended.err)
+        must(b"--jobs does nothing" not in run("reports", folder).err, "it is told of --jobs where nobody gave it")
+
+
+def unnamed():
+    """A table whose name is no UTF-8 is a line of the list, as one that cannot be read; of another such name it is told that it cannot be looked into."""
+    made = some(30)
+    with laid(made) as folder:
+        start = os.fsencode(folder)
+        text = next(iter(made.values())).text
+        for name in b"\xff.table", b"a/\xc3.table", b"\xff\xfe/x.table":
+            os.makedirs(os.path.dirname(os.path.join(start, name)), exist_ok=True)
+            write(os.path.join(start, name), text)
+        ended = run("reports", folder)
+        failed = dict.fromkeys((b"\xff.table", b"a/\xc3.table"), b"read")
+        same("the list", ended.out, listed(made, failed))
+        same("the status", ended.status, 4)
+        for name in *failed, b"\xff\xfe":
+            told(ended.err, re.escape(os.path.join(start, spelled(name))), b"read")
+        all_there(folder, made, dict.fromkeys((b"\xff.table", b"a/\xc3.table", b"\xff\xfe/x.table"), text))
 
 
 def in_another_order():
@@ -454,27 +523,27 @@ def told_meanwhile():
 
 
 def by_parallel():
-    """Several workers over the folders below one."""
-    names = list(builds())[:1200]
-    shares = [{b"build-%d.table" % n: builds()[name] for n, name in enumerate(names[at::12])} for at in range(12)]
-    made = {b"part-%02d/%s" % (n, name): build for n, share in enumerate(shares) for name, build in share.items()}
-    with laid(made) as folder:
-        parts = sorted(os.path.join(folder, part) for part in os.listdir(folder))
-        parallel = [installed("parallel", "parallel"), "--will-cite", "-k", "-j", "3", "--tag"]
-        command = [*parallel, shlex.join(COMMAND), "reports", "--jobs", "1", "{}", ":::", *parts]
+    """Parts by GNU parallel, as the pages show it, and the list of one run."""
+    made = some(1200)
+    with laid(made) as folder, tempfile.TemporaryDirectory() as other:
+        parallel = [installed("parallel", "parallel"), "--will-cite", "-j", "3"]
+        command = [*parallel, shlex.join(COMMAND), "reports", "--part", "{}/5", "-o", other + "/{}.list", folder, ":::", *"12345"]
         done = subprocess.run(command, stdin=subprocess.DEVNULL, stdout=subprocess.PIPE, stderr=subprocess.PIPE, timeout=SECONDS)
-        rows = [part.encode() + b"\t" + row for part, share in zip(parts, shares) for row in listed(share).splitlines(keepends=True)]
-        same("the lists", done.stdout, b"".join(rows))
-        same("how many ended with another status than 0", done.returncode, sum(worst(share) != 0 for share in shares))
-        for part, share in zip(parts, shares):
-            all_there(part, share)
+        same("what is printed", done.stdout, b"")
+        ended = run("lists", *(os.path.join(other, name) for name in os.listdir(other)))
+        same("the list", ended, Ended(listed(made), b"", worst(made)))
+        all_there(folder, made)
 
 
 def main():
     build()
     return tell([
         ("%d tables, and what crpd-report prints of each" % COUNT, different),
-        *[("%d tables by %d workers, twice" % (COUNT, count), lambda count=count: by_workers(count)) for count in (1, 2, 7)],
+        *[("%d tables in %d parts at once, and their lists put together" % (COUNT, count), lambda count=count: by_parts(count)) for count in (1, 2, 7)],
+        ("more parts than builds", more_parts),
+        ("what is no list", no_lists),
+        ("--jobs", jobs_told),
+        ("names that are no UTF-8", unnamed),
         ("the files made in another order, below a link", in_another_order),
         ("reports of another day, and other files", kept_and_replaced),
         ("statuses", statuses),

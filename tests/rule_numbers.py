@@ -14,13 +14,13 @@ OF_CALLS = {"Method", "Position", "ShortBuffer", "ListLine", "ListName"}
 
 # a limit's constant, where the code has it, and the places that tell its number
 LIMITS = [
-    ("LONGEST", "crates/cache/src/units.rt", ["docs/RULES.md", "command/src/table.rs"]),
-    ("LONGEST_RELOAD", "crates/cache/src/units.rt", ["docs/RULES.md", "command/src/table.rs"]),
-    ("MOST_SETS", "crates/cache/src/sets.rt", ["docs/RULES.md", "command/src/refusals.rs"]),
-    ("MOST_WAYS", "crates/cache/src/useful.rt", ["docs/RULES.md", "command/src/table.rs"]),
-    ("MOST_TASKS", "crates/table/src/lib.rt", ["docs/RULES.md", "command/src/refusals.rs"]),
-    ("MOST_ACCESSES", "crates/table/src/lib.rt", ["docs/RULES.md", "command/src/refusals.rs"]),
-    ("LONGEST_TEXT", "crates/table/src/lib.rt", ["docs/RULES.md", "docs/LIBRARY.md", "bindings/c/crpd.h", "bindings/rust/src/lib.rs", "command/src/input.rs"]),
+    ("LONGEST", "crates/cache/src/units.rt", ["docs/RULES.md"]),
+    ("LONGEST_RELOAD", "crates/cache/src/units.rt", ["docs/RULES.md"]),
+    ("MOST_SETS", "crates/cache/src/sets.rt", ["docs/RULES.md"]),
+    ("MOST_WAYS", "crates/cache/src/useful.rt", ["docs/RULES.md"]),
+    ("MOST_TASKS", "crates/table/src/lib.rt", ["docs/RULES.md"]),
+    ("MOST_ACCESSES", "crates/table/src/lib.rt", ["docs/RULES.md"]),
+    ("LONGEST_TEXT", "crates/table/src/lib.rt", ["docs/RULES.md", "docs/LIBRARY.md", "bindings/c/crpd.h", "bindings/rust/src/lib.rs"]),
     ("ROOM", "crates/writing/src/writer.rt", ["docs/LIBRARY.md", "bindings/c/crpd.h", "bindings/rust/src/lib.rs"]),
     ("LONGEST_EXPLANATION", "crates/report/src/explanation.rt", ["docs/RULES.md", "docs/LIBRARY.md", "bindings/c/crpd.h", "bindings/rust/src/lib.rs"]),
     ("LONGEST_FINDINGS", "crates/claims/src/lib.rt", ["docs/RULES.md", "docs/LIBRARY.md", "bindings/c/crpd.h", "bindings/rust/src/lib.rs"]),
@@ -76,14 +76,14 @@ def rules(found):
 
 
 def command(found):
-    """Each number of a text has words."""
-    source = read("command/src/refusals.rs").split("\nfn found(")[1]
-    told = set()
-    for arm in re.findall(r"^        (\d[\d.=| ]*?)(?: if [^=]*)? =>", source, re.M):
-        for part in arm.split("|"):
-            low, _, high = part.strip().partition("..=")
-            told.update(range(int(low), int(high or low) + 1))
-    return differ(told, [number for name, number in found.items() if name not in OF_VALUES | OF_CALLS])
+    """Each refusal of a text has words of its own."""
+    told = set(re.findall(r"\bReason::(\w+)", read("crates/refused/src/finding.rt")))
+    return ["%s has no words" % name for name in sorted(set(found) - OF_VALUES - OF_CALLS - told)] + ["%s is none" % name for name in sorted(told - set(found))]
+
+
+def toolchain(_found):
+    """What `crpd --version` tells is what the repository is pinned to."""
+    return [] if '"%s"' % read(".rattle-version").strip() in read("crates/crpd_command/src/version.rt") else ["it is not that of .rattle-version"]
 
 
 def page(path):
@@ -101,7 +101,8 @@ REFUSALS = [
     ("bindings/c/crpd.h", wrapper("bindings/c/crpd.h", r"refusals of a text are ")),
     ("bindings/rust/src/lib.rs", wrapper("bindings/rust/src/lib.rs", r"Those of a text are ")),
     ("docs/RULES.md", rules),
-    ("command/src/refusals.rs", command),
+    ("crates/refused/src/finding.rt", command),
+    ("crates/crpd_command/src/version.rt", toolchain),
     ("docs/LIBRARY.md", page("docs/LIBRARY.md")),
     ("docs/COMMAND.md", page("docs/COMMAND.md")),
     ("README.md", page("README.md")),

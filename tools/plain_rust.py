@@ -9,8 +9,31 @@ import re
 import subprocess
 import sys
 
-# Crates of the kit, and what stands for them here.
-KIT = {"memchr": "pub fn memchr(c: u8, s: &[u8]) -> Option<usize> { s.iter().position(|x| *x == c) }\n"}
+# Vectors whose memory may run out: here it does not.
+HEAP = """
+#[derive(Clone, Copy, Debug)]
+pub struct Global;
+#[derive(Clone, Copy, Debug)]
+pub struct AllocError;
+#[derive(Debug)]
+pub struct Vec<T>(pub std::vec::Vec<T>);
+impl<T> Vec<T> {
+    pub fn new(_: Global) -> Self { Vec(vec![]) }
+    pub fn push(&mut self, it: T) -> Result<(), AllocError> { Ok(self.0.push(it)) }
+    pub fn extend_from_slice(&mut self, them: &[T]) -> Result<(), AllocError> where T: Clone { Ok(self.0.extend_from_slice(them)) }
+    pub fn as_slice(&self) -> &[T] { &self.0 }
+    pub fn sort(&mut self) -> Result<(), AllocError> where T: Ord { Ok(self.0.sort()) }
+    pub fn sort_by<F: FnMut(&T, &T) -> std::cmp::Ordering>(&mut self, by: F) -> Result<(), AllocError> { Ok(self.0.sort_by(by)) }
+}
+impl<T> std::ops::Deref for Vec<T> {
+    type Target = [T];
+    fn deref(&self) -> &[T] { &self.0 }
+}
+"""
+
+# Crates of the kit, and what stands for them here; `heap` for what is allocated.
+KIT = {"memchr": "pub fn memchr(c: u8, s: &[u8]) -> Option<usize> { s.iter().position(|x| *x == c) }\n", "heap": HEAP}
+ALLOCATES = "use std::alloc::{AllocError, Global};"
 
 RUNTIME = """
 pub struct HostRuntime;
@@ -60,6 +83,7 @@ def plain(text):
     while found := MODEL.search(text):
         text = text[: found.start()] + text[behind(text, found.start()) :]
     text = TACTIC.sub("", text).replace("use std::marker::Model;\n", "").replace("ErrorKind, Print, ", "ErrorKind, ")
+    text = text.replace(ALLOCATES, "use ::heap::{AllocError, Global, Vec};")
     return TYPE.sub(r"\1#[derive(Debug)] \2", DERIVE.sub(derived, text))
 
 
@@ -71,6 +95,11 @@ def crates(root):
             name, colon, used = line.partition("#")[0].partition(":")
             if colon:
                 uses[name.split()[0]] = used.split()
+    for name in uses:
+        path = "%s/crates/%s/src/lib.rt" % (root, name)
+        if os.path.exists(path):
+            with open(path, encoding="utf-8") as it:
+                uses[name] += ["heap"] * (ALLOCATES in it.read())
     return uses
 
 

@@ -1,7 +1,7 @@
 #!/usr/bin/env python3
-"""refusal.py CRATE/LABEL: checks a crate with a must-fail edit, on a copy that begins with what `rt check` kept of the crate, and prints what is not proved of it, each goal with
+"""refusal.py CRATE/LABEL: checks a crate with a must-fail edit, on a copy of the sources, and prints what is not proved of it, each goal with
 what it says: a promise, an invariant, a call's `requires`, a bound, or a name that the edit took away. rt's own try of the edit says the first of these lines alone. It takes as
-long as a check after a change. Of a goal that is not proved it is not known that it is false: that a witness shows (tests/witnesses.py)."""
+long as a check of the crates below, over what other copies kept, and one after a change. Of a goal that is not proved it is not known that it is false: that a witness shows (tests/witnesses.py)."""
 import os
 import re
 import shutil
@@ -23,15 +23,12 @@ def main():
     if edit.bad:
         sys.exit(edit.bad)
     with tempfile.TemporaryDirectory() as room:
-        os.mkdir(room + "/crates")
         for file in ("crates.txt", "HANDLES"):
             if os.path.exists("%s/%s" % (ROOT, file)):
                 shutil.copy("%s/%s" % (ROOT, file), room)
-        for crate in os.listdir(ROOT + "/crates"):
-            if crate != edit.crate:
-                os.symlink("%s/crates/%s" % (ROOT, crate), "%s/crates/%s" % (room, crate))
+        # sources alone, and no links, which rt takes for what lies outside: it begins with what checks kept in other copies of the same crates
+        shutil.copytree(ROOT + "/crates", room + "/crates", ignore=shutil.ignore_patterns("must-fail", "out"))
         own = "%s/crates/%s" % (room, edit.crate)
-        shutil.copytree("%s/crates/%s" % (ROOT, edit.crate), own, ignore=shutil.ignore_patterns("must-fail"))
         for file, text in edit.texts.items():
             with open("%s/%s" % (own, file), "w", encoding="utf-8") as it:
                 it.write(text)

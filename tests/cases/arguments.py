@@ -22,6 +22,8 @@ def wrong_arguments(folder, picture):
     yield from (["answer"], ["answer", "0"], ["explain", "0"], ["explain", "--words"], ["growth"], ["scaled"], ["plot", table])
     yield from (["reports"], ["reports", "-j", "2"], ["evaluate"], ["evaluate", "--sets", "1"])
     yield from ([command, table, other] for command in ("report", "show"))
+    yield from (["edf", "-x", table], ["edf", table, other], ["edf", "-o", picture, table])
+    yield from (["check"], ["check", "0"], ["check", "0", other, table, table], ["check", "-x", "0", other, table])
     yield from ([command, "0", "log", table, other] for command in ("answer", "explain"))
     yield from ([command, "0", table, other] for command in ("growth", "scaled"))
     yield from (["plot", table, other, *out], ["reports", folder, folder], ["evaluate", "x", *out])
@@ -32,6 +34,9 @@ def wrong_arguments(folder, picture):
     yield from (["reports", "--jobs", jobs, folder] for jobs in ("0", "1001", "x", "", "-1", "1.5", "18446744073709551617"))
     yield from (["reports", jobs, folder] for jobs in ("--jobs=0", "--jobs=", "-j0"))
     yield ["evaluate", "--jobs", "0", *out]
+    # parts that are none, and lists of nothing
+    yield from (["reports", "--part", part, folder] for part in ("0/2", "3/2", "0/0", "1", "1/", "/1", "", "a/b", "-1/2", "1/2/3", "1/18446744073709551616"))
+    yield from (["reports", folder, "--part"], ["evaluate", "--part", "1/2", *out], ["lists"], ["lists", "--part", "1/2", table])
 
 
 def all_wrong():
@@ -46,7 +51,7 @@ def all_wrong():
 
 def no_such_methods():
     known = ": it is 0 to 5, or none, ecb-only, ucb-only, ucb-union, ecb-union, combined (12)\n"
-    commands = ["answer", "a"], ["explain", "a"], ["growth"], ["scaled"]
+    commands = ["answer", "a"], ["explain", "a"], ["growth"], ["scaled"], ["check", "x.list"]
     for (command, *task), method in itertools.product(commands, ("6", "None", "ecb", "x y", "18446744073709551616")):
         told = wrong_use([command, method, *task, "/nosuch/file"]).err.decode()
         must(told.endswith("there is no method %s%s" % (method, known)) and told.count("\n") == 1, "of %r is told %r", method, told)
@@ -165,11 +170,25 @@ def tasks_like_options():
 def odd_files():
     text = contents(CONTROLLER)
     expected = printed(text)
-    for name in b"a b.table", b"a\nb.table", b"\xff\xfe.table", b"*.table", "é.table".encode(), b"'\"$(x)", b"a\x1b[31m.table", b"#1":
+    for name in b"a b.table", b"a\nb.table", b"*.table", "é.table".encode(), b"'\"$(x)", b"a\x1b[31m.table", b"#1":
         file = fresh(text, name)
         fine(run("report", file), expected, 1, "the report of %r" % name)
         fine(run("plot", file, "-o", file + ".svg"), b"", 1, "plot of %r" % name)
         must("log" in pictures.words(pictures.texts(contents(file + ".svg"))), "the picture of %r has no log", name)
+
+
+def unnamed_files():
+    """A name that is no UTF-8 is told as what cannot be read, or written."""
+    words = b": its name is no UTF-8, and only such names can be opened\n"
+    for name in b"\xff\xfe.table", b"\xed\xa0\x80":
+        file = fresh(contents(CONTROLLER), name)
+        for args in ["report", file], ["plot", file, "-o", "-"], ["lists", file]:
+            ended = run(*args)
+            unwanted(ended, 4)
+            must(b": cannot be read" + words in ended.err, "of %r is told %r", name, ended.err)
+        ended = run("plot", CONTROLLER, "-o", file + ".svg")
+        unwanted(ended, 4)
+        must(b": cannot be written" + words in ended.err, "of %r is told %r", name, ended.err)
 
 
 def unseen_letters():
@@ -192,7 +211,7 @@ def files_like_options():
 
 def files_for_pictures():
     """Names with what stands for something else in a picture, or for nothing."""
-    odd = b"a<b>&c", b"\"'", b"]]>", b"<!--", b"\x01\x0b", "\ufffe\uffff".encode(), b"\xed\xa0\x80"
+    odd = b"a<b>&c", b"\"'", b"]]>", b"<!--", b"\x01\x0b", "\ufffe\uffff".encode()
     for name in odd:
         texts = pictures.texts(run("plot", fresh(contents(CONTROLLER), name), "-o", "-").out)
         must("log" in pictures.words(texts), "the picture of %r has no log", name)
@@ -211,6 +230,7 @@ def cases():
         ("--jobs in every spelling", spellings_of_jobs),
         ("tasks named like options", tasks_like_options),
         ("files with odd names", odd_files),
+        ("files whose names are no UTF-8", unnamed_files),
         ("letters that nobody sees", unseen_letters),
         ("files named like options", files_like_options),
         ("files with names that are odd in a picture", files_for_pictures),

@@ -12,13 +12,13 @@ import tempfile
 from common import all_printed, contents, examples, must, same, spelled, status_of, write
 
 FOLDERS = [
-    b"", b"a/", b"a/b/", b"a/b/c/", b"with space/", b"-j/", b"line\nend/", b"\xff\xfe/", b"y.table/", b".hidden/", "é/".encode(),
+    b"", b"a/", b"a/b/", b"a/b/c/", b"with space/", b"-j/", b"line\nend/", b"y.table/", b".hidden/", "é/".encode(),
     b"d/" * 100,
 ]
 ODD = [
     b".table", b"-.table", b"--jobs.table", b"a b.table", b"a\tb.table", b"a\nb.table", b"aZ.table", b"back\\slash.table",
-    b"back.table", b"\xff.table", b"\x1b[31m.table", b"x.table.table", b"x.report.table", b"\x7f.table", "ü.table".encode(),
-    b"zz.table", b"\xc3.table",
+    b"back.table", b"\x1b[31m.table", b"x.table.table", b"x.report.table", b"\x7f.table", "ü.table".encode(),
+    b"zz.table",
 ]
 COUNT, DIFFERENT = 2000, 1000
 

@@ -46,7 +46,7 @@ def told_by_all():
     """Each command tells the same of a text, and all but report leave standard output empty."""
     out = os.path.join(fresh_folder(), "x.svg")
     refusal = next(refused_texts.between_fields())
-    asked = "answer 0 a", "explain 0 #0", "explain --words 5 nosuch", "growth 3", "scaled 4", "show", "plot -o - ", "plot -o " + out
+    asked = "answer 0 a", "explain 0 #0", "explain --words 5 nosuch", "growth 3", "scaled 4", "edf", "edf --words", "replay a", "replay #9 -o -", "show", "plot -o - ", "plot -o " + out
     for line in asked:
         for turn in range(3):
             file, text = given(refusal.text, turn)

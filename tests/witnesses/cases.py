@@ -367,7 +367,7 @@ def of_report():
             row = [0 if k % 6 == m and k // 6 == n - 1 else 4 for k in range(6 * n)]
             found += ["verdict_line %s" % words(row), "verdict_line %s" % words([0 if k % 6 == m and k // 6 == 0 else 4 for k in range(6 * n)]), "verdict_line %s" % words([4 if k % 6 == m else 0 for k in range(6 * n)])]
     found = sorted(set(found))
-    return found + [it.replace("verdict_line", "every_verdict") for it in found if it.startswith("verdict_line")]
+    return found + [it.replace("verdict_line", call) for call in ("every_verdict", "verdicts") for it in found if it.startswith("verdict_line")]
 
 
 CHANGES = ["-", "sets=0", "sets=2", "sets=6", "sets=8", "sets=256", "sets=260", "sets=257", "brt=0", "brt=100000", "brt=100001", "count=0", "count=1", "count=2", "count=4", "count=33", "count=18446744073709551615", "access_count=1", "access_count=33", "access_count=18446744073709551615", "t0.name=65", "t0.name=0", "t0.name=97:0:98", "t0.name=98", "t1.name=99", "t2.name=97", "t0.name=97:97:97:97:97:97:97:97:97:97:97:97", "t0.work=0", "t0.work=250000000", "t0.work=250000001", "t2.work=0", "t0.period=0", "t0.period=19", "t0.period=250000001", "t0.deadline=0", "t0.deadline=21", "t0.jitter=20", "t0.jitter=21", "t1.jitter=250000001", "t0.ucb=16:0:0:0", "t0.ucb=15:0:0:0", "t0.ucb=0:1:0:0", "t0.ecb=16:0:0:0", "t0.ecb=0:0:1:0", "t1.ecb=0:0:0:1", "t3.name=97", "t3.work=1", "t3.period=1", "t3.deadline=1", "t3.jitter=1", "t3.ucb=1:0:0:0", "t3.ecb=1:0:0:0", "t3.ucb=0:0:0:1", "t31.work=1", "t31.ecb=1:0:0:0", "t31.name=0:0:0:0:0:0:0:0:0:0:0:1", "a0.task=1", "a0.ceiling=1", "a0.lasts=1", "a0.ucb=1:0:0:0", "a31.lasts=1", "a31.task=1", "a1.lasts=1", "a1.task=1", "a1.ceiling=1", "a1.ucb=1:0:0:0"]
@@ -670,6 +670,35 @@ def of_crpd_report():
         for steps in ("-", "2", "0", "1", "2,2,2", "0,0,3", "3,0,4", "3,1", "0,1", "9,9,1", "100,0,100", "2,1"):
             found += ["run %s %s %d" % (it, steps, room) for room in (0, 5, 10, 2746, 9000)]
     return found
+
+
+def of_aligned():
+    lines = [["1wtask", "1wlimit", *["1w" + it for it in ("none", "ecb-only", "ucb-only", "ucb-union", "ecb-union", "combined")]], ["0wa", "0n123456", "0n7", "3w-", "2wyes", "3wno", "0", "0n0"], ["0wmuch_longer", "0n0", *["0n99999999999"] * 6]]
+    texts = [lines, lines[:1], lines[1:], lines[1:2], []]
+    return ["aligned %d %s" % (colours, text("".join("\t".join(line) + "\n" for line in it))) for it in texts for colours in (0, 1)]
+
+
+def of_lists():
+    names = ["a", "b/c.table", "", "\\\\", "a\tb", "x"]
+    fates = ["0", "1", "2 0", "2 17", "3 1 1 1 1 1 1", "3 0 1 0 1 0 1"]
+    found = ["line %s %s" % (text(name), fate) for name in names[:3] for fate in fates]
+    spelled = [b"plain.table", b"", b"\\", b"a\\n", b"\n", b"\t", b"\x1b[1m", b"\x7f", b"\xff", b"\xc3\xa4", b"\xc2\x85", b"\xc2\xad", b"\xe2\x80\x8b", b"\xe2\x82\xac", b"\xed\xa0\x80", b"\xf0\x9f\x98\x80", b"\xf4\x90\x80\x80", b"\xc0\x80", b"\xe2\x82", b"[", b"\xf8\x90\x80\x80"]
+    found += ["spelled_out %s" % text(it) for it in spelled]
+    lists = ["a\tV\tyes\nb\tE\t1\t0\n", "c\tF\tread\n", "", "b\tV\tno\na\tF\twrite\n"]
+    return found + ["put_together " + " ".join(text(it) for it in some) for some in (lists, lists[::-1], lists[:1], lists[1:2], lists[3:])] + ["put_together"]
+
+
+def of_builds():
+    held = ["%s %s %d" % (text(way), text(it), how) for way, it, how in (("b.table", THREE, 0), ("a.table", "K\n", 0), ("c\t.table", THREE, 1), ("d\\.table", many_tasks(3), 2), ("e/f.table", many_tasks(1), 0))]
+    found = ["print_build %s" % text(it) for it in (THREE, "K\n", "", many_tasks(32))] + ["build_at %s" % text(it) for it in ("a.table", "a\tb", "\\")]
+    found += ["part %d %d" % pair for pair in ((0, 0), (0, 1), (1, 1), (1, 2), (2, 2), (3, 2), (4, 2), (1, 0))]
+    found += ["sort %s" % " ".join(held), "sort %s" % " ".join(held[::-1]), "sort %s" % " ".join("%s %s 0" % (text(way), text("")) for way in ("cA.table", "c\t.table"))] + ["write_report %s" % it for it in held]
+    return found + ["write_reports %d %d %s" % (k, n, " ".join(it)) for k, n in ((1, 1), (1, 2), (2, 2), (3, 3)) for it in (held, held[:2], held[3:], [])]
+
+
+def of_shown():
+    some = [text(it) for it, _ in tables(7, 20)] + [text(THREE), text(many_tasks(32)), '"a"', '""']
+    return ["show %s %d" % (it, colours) for it in some for colours in (0, 1)] + ["no_memory"]
 
 
 def called(case):

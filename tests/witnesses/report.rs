@@ -1,5 +1,5 @@
 // What the public functions of `report` answer.
-use crate::verdicts::{every_verdict, write_verdict_line};
+use crate::verdicts::{every_verdict, verdicts, write_verdict_line};
 use crate::{explanation, report};
 use analysis::rows::{self, Row};
 use analysis::Method;
@@ -51,6 +51,7 @@ fn answer(name: &str, args: &mut Args) -> String {
             filled(explanation::explain(pending, method, &mut out), &out)
         }
         "every_verdict" => show(every_verdict(&rows_of(args))),
+        "verdicts" => show(verdicts(&rows_of(args))),
         "verdict_line" => {
             let mut draft = Draft::new();
             write_verdict_line(&mut draft, &rows_of(args));

@@ -9,6 +9,8 @@ use crpd_compare::{library, model};
 use std::os::raw::c_long;
 use std::time::Duration;
 
+#[path = "bench/deadlines.rs"]
+mod deadlines;
 #[path = "bench/growths.rs"]
 mod growths;
 
@@ -87,6 +89,7 @@ fn run(words: &[String]) -> i32 {
         "periods 2, 3, 7, 43, 1807 of C = 1 above 27 long deadlines",
         &|longest| generate::hardly_a_tick_left(27, longest),
     );
+    deadlines::time();
     0
 }
 

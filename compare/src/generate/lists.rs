@@ -75,9 +75,11 @@ fn beside_release(random: &mut Random, table: &Table, i: usize, about: u64, limi
 fn least_holding(checks: &Checks, method: u64, i: usize, start: u64, limit: u64) -> u64 {
     let mut number = start;
     for _ in 0..100 {
-        let demand = checks.demands(method, i, number).into_iter().max();
-        match demand {
-            Some(demand) if demand > number && number <= limit => number = demand,
+        if number > limit {
+            break;
+        }
+        match checks.demands(method, i, number).into_iter().max() {
+            Some(demand) if demand > number => number = demand,
             _ => break,
         }
     }

@@ -8,7 +8,7 @@ use Rattle.search.specs.Positions.{fold_by}
 use Rattle.search.proofs.PositionLaws.{fold_same}
 use Rattle.writing.specs.Text.{line_of, yes_no}
 use Rattle.analysis.specs.Verdict.{has_response, verdict}
-use Rattle.report.specs.Verdicts.{every_verdict, verdict_line}
+use Rattle.report.specs.Verdicts.{every_verdict, verdicts_in, verdict_line}
 use Rattle.report.specs.VerdictRows.{blank_row, answer_under, answers_in}
 use Rattle.report.proofs.Lists.{methods-are, methods-same}
 
@@ -32,3 +32,9 @@ verdicts-agree n f g h =
     ∙ fold_same ◌&&◌ true (λ m. verdict n (f m)) (λ m. verdict n (g m)) 0 6
     (λ m _ k. fold_same ◌&&◌ true (λ i. has_response (f m i)) (λ i. has_response (g m i)) 0 (n - 0) (λ i _ l. ap has_response (h m i (omega arith) (omega arith))))
     ∙ ap (fold_by ◌&&◌ true (λ m. verdict n (g m))) methods-are
+
+-- and so do the verdicts
+pub each-verdict-agrees : (n : ℕ) (f g : ℕ → ℕ → Response) → ((m i : ℕ) → m < 6 → i < n → f m i ≡ g m i) → verdicts_in n f ≡ verdicts_in n g
+each-verdict-agrees n f g h =
+    methods-same (λ m. verdict n (f m)) (λ m. verdict n (g m))
+    (λ m k. fold_same ◌&&◌ true (λ i. has_response (f m i)) (λ i. has_response (g m i)) 0 (n - 0) (λ i _ l. ap has_response (h m i k (omega arith))))

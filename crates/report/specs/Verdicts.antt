@@ -9,6 +9,10 @@ use Rattle.writing.specs.Text.{line_of, yes_no}
 abbrev pub method_numbers : List ℕ
 method_numbers = 0 ∷ 1 ∷ 2 ∷ 3 ∷ 4 ∷ 5 ∷ []
 
+-- the verdict of each method
+abbrev pub verdicts_in : ℕ → (ℕ → ℕ → Response) → List Bool
+verdicts_in count answers = map (λ m. verdict count (answers m)) method_numbers
+
 -- whether every task has a response under every method
 abbrev pub every_verdict : ℕ → (ℕ → ℕ → Response) → Bool
 every_verdict count answers = fold_by ◌&&◌ true (λ m. verdict count (answers m)) method_numbers

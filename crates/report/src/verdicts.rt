@@ -4,7 +4,7 @@ ghost use Rattle.std.specs.Prelude.{◌≡◌, ◌+◌, ◌≤◌, ◌<◌, ◌+
 ghost use Rattle.std.specs.List.{list_all};
 ghost use Rattle.writing.specs.declared.writer.TheConstants.{ROOM};
 ghost use Rattle.analysis.specs.Verdict.{has_response, verdict};
-ghost use Rattle.report.specs.Verdicts.{every_verdict, verdict_line};
+ghost use Rattle.report.specs.Verdicts.{every_verdict, verdicts_in, verdict_line};
 ghost use Rattle.report.specs.VerdictRows.{answer_under, answers_in};
 
 use analysis::rows::Row;
@@ -35,6 +35,20 @@ fn verdict(rows: &[Row], m: usize) -> bool
     all_respond(rows, m)
 }
 
+// The verdict of each method.
+pub fn verdicts(rows: &[Row]) -> [bool; 6]
+    ensures { result ≡ verdicts_in (length rows.now) (answers_in rows.now) }
+{
+    [
+        verdict(rows, 0),
+        verdict(rows, 1),
+        verdict(rows, 2),
+        verdict(rows, 3),
+        verdict(rows, 4),
+        verdict(rows, 5),
+    ]
+}
+
 // Whether every task has a response under every method.
 #[tactic(auto, unfolding(search::specs::Positions::fold_by))]
 pub fn every_verdict(rows: &[Row]) -> bool
@@ -55,13 +69,6 @@ pub fn write_verdict_line(draft: &mut Draft, rows: &[Row])
     ensures { draft.new ≡ draft.old ++ verdict_line (length rows.now) (answers_in rows.now) }
 {
     draft.push(b'V');
-    draft.fields(&[
-        verdict(rows, 0),
-        verdict(rows, 1),
-        verdict(rows, 2),
-        verdict(rows, 3),
-        verdict(rows, 4),
-        verdict(rows, 5),
-    ]);
+    draft.fields(&verdicts(rows));
     draft.push(b'\n');
 }

@@ -128,8 +128,9 @@ fn fill_decimal(places: &mut [u8], n: u64)
     }
 }
 
+// The byte of a hex digit.
 #[tactic(auto, unfolding(crate::specs::Text::hex_byte))]
-fn hex_byte(digit: u64) -> u8
+pub fn hex_byte(digit: u64) -> u8
     requires { digit < 16 }
     ensures { result ≡ hex_byte digit }
 {

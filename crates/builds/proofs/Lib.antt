@@ -1,0 +1,5 @@
+mod Answers
+mod LongTexts
+mod Running
+mod Sharing
+mod Telling

@@ -1,0 +1,3 @@
+pub mod Fates
+pub mod Folders
+pub mod Runs

@@ -1,0 +1,71 @@
+// A partner's list of claimed responses, and what is found of it.
+use crate::answers::refused_stop;
+use crate::files::{self, Input, print};
+use analysis::Method;
+use asked::arguments::{Arguments, Opt};
+use asked::ending::{Ending, Outcome, Stop};
+use claims::finding::judge;
+use claims::list;
+use search::demand::Response;
+use std::alloc::Global;
+use table::Table;
+use table::accepted::Accepted;
+use table::refusals::{Reason, Refusal};
+use worded::claimed;
+use writing::writer::ROOM;
+
+// Why nothing is told of a list: the table is refused, or the list itself.
+fn list_stop(alloc: Global, input: &Input, list: &Input, table: &Table, refusal: Refusal) -> Stop {
+    if refusal.reason != Reason::ListLine && refusal.reason != Reason::ListName {
+        return refused_stop(alloc, input, refusal);
+    }
+    let (name, text) = (list.name.as_str(), list.text.as_slice());
+    match refused::told_of_list(alloc, name, text, table, refusal) {
+        Ok(message) => Stop::refused(message),
+        Err(error) => Stop::from(error),
+    }
+}
+
+// How it ends: as the worst claim does.
+fn ending(accepted: Accepted, method: u64, claims: &[Response]) -> Ending {
+    let mut ending = Ending::Given;
+    if let Some(method) = Method::from_number(method) {
+        for i in 0..accepted.table.count {
+            let claim = claims.get(i).copied().unwrap_or(Response::Unschedulable);
+            ending = ending.worse(Ending::of_finding(judge(accepted.pending(i), method, claim)));
+        }
+    }
+    ending
+}
+
+pub fn check(rt: &HostRuntime, arguments: &Arguments) -> Outcome {
+    let alloc = rt.alloc();
+    let method = arguments.method(0)?;
+    let (list, file) = (arguments.operand(1), arguments.operand(2));
+    if files::named(list).is_none() && files::named(file).is_none() {
+        return Err(Stop::wrong(alloc, "LIST and FILE are both standard input"));
+    }
+    let list = files::read(rt, list)?;
+    let input = files::read(rt, file)?;
+    let (text, listed) = (input.text.as_slice(), list.text.as_slice());
+    let mut table = Table::empty();
+    let accepted = match Accepted::read(text, &mut table) {
+        Ok(accepted) => accepted,
+        Err(refusal) => return Err(refused_stop(alloc, &input, refusal)),
+    };
+    let claims = match list::read(accepted, listed) {
+        Ok(claims) => claims,
+        Err(refusal) => return Err(list_stop(alloc, &input, &list, accepted.table, refusal)),
+    };
+    if arguments.has(Opt::Words) {
+        let words = claimed::told(alloc, accepted, method, claims.as_slice())?;
+        print(rt, words.as_str().as_bytes())?;
+    } else {
+        let mut out = [0u8; ROOM];
+        match crpd::check(text, listed, method, &mut out) {
+            Ok(end) => print(rt, out.get(..end).unwrap_or(&[]))?,
+            Err(refusal) => return Err(list_stop(alloc, &input, &list, accepted.table, refusal)),
+        }
+    }
+    Ok(ending(accepted, method, claims.as_slice()))
+}

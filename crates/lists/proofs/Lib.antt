@@ -1,0 +1,5 @@
+mod Apart
+mod Lines
+pub mod Lists
+pub mod Orders
+mod Seen

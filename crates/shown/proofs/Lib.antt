@@ -1,0 +1,3 @@
+mod MoreLines
+mod Tables
+mod Texts
