@@ -12,7 +12,7 @@ pub use deadlines::{deadline_plans, DeadlinePlan};
 pub use lists::{list_plans, ListPlan, SpoiledList};
 pub use replays::{replay_plans, ReplayPlan};
 
-use crate::generate::{text_of, Lines, Table, BASES};
+use crate::generate::{text_of, Access, Lines, Table, BASES};
 use crate::model::{Form, Refusal, ACCESSES_MOST, TASKS_MOST, TEXT_MOST};
 use crate::random::Random;
 use accesses::AccessPlan;
@@ -330,5 +330,18 @@ impl Draft {
                 spoil_fields(random, fields, &mut free, kind, &earlier, self.form);
             }
         }
+    }
+}
+
+/// Gives a table a few accesses, of any of its tasks and with any ceilings that they may have.
+fn add_accesses(random: &mut Random, table: &mut Table) {
+    for _ in 0..random.between(1, 3) {
+        let task = random.below(table.tasks.len());
+        table.accesses.push(Access {
+            task,
+            ceiling: random.below(task + 1),
+            length: random.between(1, 9),
+            useful: vec![0; table.sets],
+        });
     }
 }

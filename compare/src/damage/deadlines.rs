@@ -1,7 +1,7 @@
 //! Tables that are refused where the earliest deadline comes first.
 
 use super::Spoiled;
-use crate::generate::{by_deadline, Access};
+use crate::generate::by_deadline;
 use crate::model::Refusal;
 use crate::random::Random;
 
@@ -54,15 +54,7 @@ impl DeadlinePlan {
             told = Refusal::new(23, 0);
         }
         if self.access {
-            for _ in 0..random.between(1, 3) {
-                let task = random.below(tasks);
-                table.accesses.push(Access {
-                    task,
-                    ceiling: random.below(task + 1),
-                    length: random.between(1, 9),
-                    useful: vec![0; table.sets],
-                });
-            }
+            super::add_accesses(random, &mut table);
             told = Refusal::new(22, tasks as u64 + 2);
         }
         if self.jitter {

@@ -1,7 +1,7 @@
 //! Replays that are refused for a known reason.
 
 use super::Spoiled;
-use crate::generate::{replayed, Access};
+use crate::generate::replayed;
 use crate::model::Refusal;
 use crate::random::Random;
 
@@ -73,15 +73,7 @@ impl ReplayPlan {
             }
         }
         if self.access {
-            for _ in 0..random.between(1, 3) {
-                let task = random.below(tasks);
-                table.accesses.push(Access {
-                    task,
-                    ceiling: random.below(task + 1),
-                    length: random.between(1, 9),
-                    useful: vec![0; table.sets],
-                });
-            }
+            super::add_accesses(random, &mut table);
             told = Refusal::new(22, tasks as u64 + 2);
         }
         if self.jitter {
