@@ -231,7 +231,8 @@ def of_table():
         found += ["is_within %d %d %d" % (low, high, n) for n in {0, 1, low, high, low + 1, high - 1 if high else 0, high + 1, (low + high) // 2, 250000000, 250000001}]
     for a in ["", "a", "b", "ab", "ac", "bb", "abc", "abd", "aa", "ba", "abcdefghijkl", "abcdefghijkm"]:
         found += ["same_bytes %s %s" % (text(a), text(b)) for b in ["", "a", "b", "ab", "abc", "bb", "aa", "abcdefghijkl", "bbc"]]
-    found += ["%s %d" % (it, k) for it in ("number", "untold") for k in range(18)]
+    found += ["%s %d" % (it, k) for it in ("number", "alone", "untold") for k in range(18)]
+    found += ["at %d %d" % (k, field) for k in (0, 4, 17) for field in (0, 1, 9)] + ["on %d %d %d" % (k, field, line) for k in (0, 4, 17) for field in (0, 9) for line in (0, 3, 16385)]
     found += ["ways %s form=%d" % (text(THREE), ways) for ways in (0, 1, 2, 8)]
     found += ["may_block %d %d %d" % (t, c, i) for t in range(4) for c in range(4) for i in range(4)]
     found += ["head %s" % text(it) for it in heads()] + ["head_in_range %d %d 0" % (sets, brt) for sets in (0, 1, 2, 3, 4, 5, 6, 8, 252, 254, 255, 256, 257, 260, 512) for brt in (0, 1, 99999, 100000, 100001)]

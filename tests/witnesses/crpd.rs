@@ -24,6 +24,7 @@ fn refusal(args: &mut Args) -> Refusal {
             Reason::NoText,
         ][args.size()],
         line: args.number(),
+        field: None,
     }
 }
 

@@ -16,6 +16,7 @@ fn fate(args: &mut Args) -> Fate {
         2 => Fate::Refused(Refusal {
             reason: Reason::Shape,
             line: args.number(),
+            field: None,
         }),
         _ => Fate::Judged(std::array::from_fn(|_| args.number() == 1)),
     }

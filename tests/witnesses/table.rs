@@ -70,6 +70,12 @@ fn answer(name: &str, args: &mut Args) -> String {
         "is_within" => show(is_within(args.number(), args.number(), args.number())),
         "same_bytes" => show(same_bytes(&args.bytes(), &args.bytes())),
         "number" => show(tables::REASONS[args.size()].number()),
+        "at" => show(tables::REASONS[args.size()].at(args.size())),
+        "alone" => show(tables::REASONS[args.size()].alone()),
+        "on" => {
+            let fault = tables::REASONS[args.size()].at(args.size());
+            show(fault.on(args.number()))
+        }
         "untold" => show(Refusal::untold(tables::REASONS[args.size()])),
         "name_of" => show(Name::of(&args.bytes())),
         "name_len" => show(name_of(args).len()),

@@ -50,6 +50,7 @@ fn drafted(args: &mut Args) -> Draft {
                 Refusal {
                     reason: tables::REASONS[args.size()],
                     line: args.number(),
+                    field: None,
                 },
             ),
             other => panic!("nothing appends {}", other),

@@ -3,12 +3,13 @@ use Rattle.std.proofs.Common.{◌≡◌, ℕ, ◌<◌, List, length, take, arith
 use Rattle.std.proofs.Math.Decide.{dec_lt}
 use Rattle.std.proofs.lemmas.Bool.{lt-ltb}
 use Rattle.table.specs.declared.refusals.Reason.TheVariants.{TooLong}
+use Rattle.table.specs.Faults.{no_field}
 use Rattle.table.specs.Rows.{unless_fault}
 use Rattle.table.specs.Reading.{read_text, refused}
 use Rattle.crpd.specs.Operations.{printed}
 use Rattle.builds.specs.Fates.{fate_of}
 
-too_long : (text : List ℕ) → 16384 < length text → read_text text ≡ refused TooLong 0
+too_long : (text : List ℕ) → 16384 < length text → read_text text ≡ refused (no_field TooLong) 0
 unfolding read_text unless_fault
 too_long text long = rw (lt-ltb 16384 (length text) long) refl
 

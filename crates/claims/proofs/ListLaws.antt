@@ -1,18 +1,22 @@
 -- The reading of a list, one task after the other.
-use Rattle.std.proofs.Common.{ℕ, ◌+◌, ◌≤◌, ◌<◌, ◌≡◌, refl, ap, ◌∙◌, arith, List, [], ◌∷◌, ◌++◌, length, take, drop, set, take-suc-set, append_assoc, append-nil, add-one, Result, Ok, Err}
+use Rattle.std.proofs.Common.{ℕ, ◌+◌, ◌≤◌, ◌<◌, ◌≡◌, refl, ap, ◌∙◌, arith, Bool, true, false, not, cond, List, [], ◌∷◌, ◌++◌, length, take, drop, set, take-suc-set, append_assoc, append-nil, add-one, Result, Ok, Err, ◌==◌}
+use Rattle.std.specs.Str.{bytes_eq}
 use Rattle.std.proofs.lemmas.List.{drop_more, drop_all}
 use Rattle.search.specs.declared.demand.Response.{Response}
 use Rattle.table.specs.declared.refusals.Refusal.{Refusal}
-use Rattle.table.specs.declared.refusals.Reason.{Reason}
-use Rattle.table.specs.Rows.{unless_fault}
+use Rattle.table.specs.declared.refusals.Fault.{Fault}
+use Rattle.table.specs.declared.refusals.Reason.TheVariants.{ListName}
+use Rattle.table.specs.Cut.{up_to, after}
+use Rattle.table.specs.Faults.{at_field, on_line}
+use Rattle.table.specs.Rows.{Conditions, unless_fault}
 use Rattle.table.proofs.RowLaws.{fault-any, fine-any}
 use Rattle.table.specs.declared.tasks.Task.{Task}
-use Rattle.table.specs.Tasks.{blank}
+use Rattle.table.specs.Tasks.{blank, name_text}
 use Rattle.table.proofs.ToldLines.{ToldBy}
 use Rattle.table.specs.declared.Table.{Table}
 use Rattle.table.specs.Tables.{tasks_of, at}
 use Rattle.table.specs.Reading.{told, then_read}
-use Rattle.claims.specs.Lists.{claim_rows, first_claim, end_of_list_rows, claims_from, claims_in}
+use Rattle.claims.specs.Lists.{name_listed, claim_listed, list_line_rows, list_line_checked, claim_rows, first_claim, end_of_list_rows, claims_from, claims_in}
 
 abbrev none : List Response
 none = []
@@ -60,8 +64,8 @@ module _ (table : Table) (list : List ℕ) where
         where
           go : (r : Result (Unit {0}) _) → unless_fault (end_of_list_rows rest) (tt {0}) ≡ r → Err e ≡ told (i + 1) r → Err e ≡ claims_in table list
           go (Ok u) q f = let z : ◌≡◌ {A = ℕ} 0 1 = cc in absurd (omega arith)
-          go (Err reason) q f =
-              let same : ◌≡◌ {A = Refusal} e (record { reason = reason; line = i + 1 }) = cc in
+          go (Err fault) q f =
+              let same : ◌≡◌ {A = Refusal} e (on_line (i + 1) fault) = cc in
               rw same (rw (closed, fault-any (end_of_list_rows rest) (tt {0}) none q) at so_far)
 
       pub all-read : {u : Unit {0}} → Ok u ≡ told (i + 1) (unless_fault (end_of_list_rows rest) (tt {0})) → ◌≡◌ {A = Result (List Response) Refusal} (Ok (take i claims)) (claims_in table list)
@@ -69,13 +73,36 @@ module _ (table : Table) (list : List ℕ) where
         where
           go : (r : Result (Unit {0}) _) → unless_fault (end_of_list_rows rest) (tt {0}) ≡ r → Ok u ≡ told (i + 1) r → Ok (take i claims) ≡ claims_in table list
           go (Ok v) q f = rw (closed, (fine-any (end_of_list_rows rest) (tt {0}) none q).1, append-nil) at so_far
-          go (Err reason) q f = let z : ◌≡◌ {A = ℕ} 0 1 = cc in absurd (omega arith)
+          go (Err fault) q f = let z : ◌≡◌ {A = ℕ} 0 1 = cc in absurd (omega arith)
+
+-- ---- conditions before others
+
+module _ {X Y : Type 0} where
+  fault-before : (rows rest : Conditions) (x : X) (y : Y) {e : Fault} → unless_fault rows x ≡ Err e → unless_fault (rows ++ rest) y ≡ Err e
+  unfolding unless_fault
+  fault-before [] rest x y {e} h = let z : ◌≡◌ {A = ℕ} 0 1 = cc in absurd (omega arith)
+  fault-before (r ∷ rows) rest x y {e} h = go r.0 h (fault-before rows rest x y)
+    where
+      go : (t : Bool) → cond t (Err r.1) (unless_fault rows x) ≡ Err e → (unless_fault rows x ≡ Err e → unless_fault (rows ++ rest) y ≡ Err e) → cond t (Err r.1) (unless_fault (rows ++ rest) y) ≡ Err e
+      go true k f = let same : r.1 ≡ e = cc in cc
+      go false k f = f k
+
+-- what is no list line is refused, whatever the conditions behind
+line-refused : {X : Type 0} (list : List ℕ) (rest : Conditions) (x : X) {e : Fault} → list_line_checked list ≡ Err e → unless_fault (list_line_rows list rest) x ≡ Err e
+line-refused list rest x h = fault-before (list_line_rows list []) rest (tt {0}) x h
+
+pub claim-refused : (line : ℕ) (task : Task) (list : List ℕ) {e : Fault} → (length list == 0) ≡ false → list_line_checked list ≡ Err e → first_claim line task list ≡ Err (on_line line e)
+unfolding first_claim claim_rows unless_fault
+claim-refused line task list some h =
+    rw some
+    (ap (told line)
+    (line-refused list ((not (bytes_eq (name_listed (up_to 10 list)) (name_text task.name)), at_field 1 ListName) ∷ []) (claim_listed (up_to 10 list), after 10 list) h))
 
 -- ---- the line that is told
 
-told-here : {X : Type 0} (line most : ℕ) (r : Result X Reason) → line ≤ most → ToldBy most (told line r)
+told-here : {X : Type 0} (line most : ℕ) (r : Result X Fault) → line ≤ most → ToldBy most (told line r)
 told-here line most (Ok x) h = tt
-told-here line most (Err reason) h = h
+told-here line most (Err fault) h = h
 
 -- is one of a line for each task, or the one below them
 pub claims-told : (tasks : List Task) (line most : ℕ) (list : List ℕ) → line + length tasks ≤ most → ToldBy most (claims_from line tasks list)

@@ -1,12 +1,14 @@
 -- A partner's list: below one another, in the order of a table's tasks, a line with the response that is claimed of each. What it claims, or its first refusal.
-use Rattle.std.specs.Prelude.{ℕ, ◌+◌, ◌≡◌, Bool, true, not, ◌&&◌, List, [], ◌∷◌, length, Option, Some, option_map, is_some, unwrap_or, Result, Ok, if◌then◌else◌, nat_lt, ◌==◌, codes}
+use Rattle.std.specs.Prelude.{ℕ, ◌+◌, ◌≡◌, Bool, true, not, List, [], ◌∷◌, length, Option, Some, option_map, is_some, unwrap_or, Result, Ok, if◌then◌else◌, nat_lt, ◌==◌, ⊤, codes}
 use Rattle.std.specs.Str.{bytes_eq}
 use Rattle.search.specs.declared.demand.Response.{Response}
 use Rattle.search.specs.declared.demand.Response.TheVariants.{Within, Unschedulable}
 use Rattle.table.specs.Cut.{up_to, after, field}
-use Rattle.table.specs.Fields.{read_number, has_shape, is_name}
+use Rattle.table.specs.Fields.{read_number, is_of_kind, has_shape, is_name}
 use Rattle.table.specs.declared.refusals.Reason.TheVariants.{ListLine, ListName}
+use Rattle.table.specs.declared.refusals.Fault.{Fault}
 use Rattle.table.specs.declared.refusals.Refusal.{Refusal}
+use Rattle.table.specs.Faults.{at_field, no_field}
 use Rattle.table.specs.Rows.{Conditions, unless_fault}
 use Rattle.table.specs.declared.tasks.Task.{Task}
 use Rattle.table.specs.Tasks.{name_text}
@@ -26,10 +28,6 @@ pub record AreListFields (line : List ℕ) (f : ListFields) : Type 0 where
   pub name : f.name.now ≡ field 1 line
   pub claim : f.claim.now ≡ field 2 line
 
--- a list line: `R`, a name, and a claim
-unfoldable pub is_list_line : List ℕ → Bool
-is_list_line line = has_shape (codes "R") 3 line && is_name (field 1 line) && is_some (read_claim (field 2 line))
-
 -- its name and its claim
 abbrev pub name_listed : List ℕ → List ℕ
 name_listed line = field 1 line
@@ -37,39 +35,41 @@ name_listed line = field 1 line
 abbrev pub claim_listed : List ℕ → Response
 claim_listed line = unwrap_or (read_claim (field 2 line)) Unschedulable
 
--- this is what a list line says
-pub record SaysListLine (line : List ℕ) (said : Claimed) : Type 0 where
-  pub formed : is_list_line line ≡ true
-  pub name : said.name.now ≡ name_listed line
-  pub claim : said.claim ≡ claim_listed line
-
--- the first line of what is left of a list: it is ended by LF, and a list line
+-- the first line of what is left of a list is ended by LF
 abbrev pub is_line_ended : List ℕ → Bool
 is_line_ended list = nat_lt (length (up_to 10 list)) (length list)
 
-abbrev pub has_list_line : List ℕ → Bool
-has_list_line list = is_line_ended list && is_list_line (up_to 10 list)
+-- it is a list line: `R`, a name, and a claim, and ended; and these are the conditions behind
+abbrev pub list_line_rows : List ℕ → Conditions → Conditions
+list_line_rows list rows =
+    let line = up_to 10 list in
+    (not (is_of_kind (codes "R") line), at_field 0 ListLine)
+    ∷ (not (has_shape (codes "R") 3 line), at_field 3 ListLine)
+    ∷ (not (is_name (field 1 line)), at_field 1 ListLine)
+    ∷ (not (is_some (read_claim (field 2 line))), at_field 2 ListLine)
+    ∷ (not (is_line_ended list), no_field ListLine)
+    ∷ rows
+
+-- whether it is one, or its first fault
+abbrev pub list_line_checked : List ℕ → Result ⊤ Fault
+list_line_checked list = unless_fault (list_line_rows list []) tt
 
 -- this is what it says, and what is left below it
 pub record BeginsWithLine (list : List ℕ) (said : Claimed) (below : List ℕ) : Type 0 where
-  pub ended : is_line_ended list ≡ true
-  pub line : SaysListLine (up_to 10 list) said
+  pub formed : list_line_checked list ≡ Ok tt
+  pub name : said.name.now ≡ name_listed (up_to 10 list)
+  pub claim : said.claim ≡ claim_listed (up_to 10 list)
   pub rest : below ≡ after 10 list
 
 -- where a task's line is to stand: it is missing, it is malformed, or it has the name of another task
 unfoldable pub claim_rows : Task → List ℕ → Conditions
 claim_rows task list =
-    (length list == 0, ListName)
-    ∷ (not (has_list_line list), ListLine)
-    ∷ (not (bytes_eq (name_listed (up_to 10 list)) (name_text task.name)), ListName)
-    ∷ []
+    (length list == 0, no_field ListName)
+    ∷ list_line_rows list ((not (bytes_eq (name_listed (up_to 10 list)) (name_text task.name)), at_field 1 ListName) ∷ [])
 
 -- where the list is to end: the line that stands there is malformed, or one too many
 unfoldable pub end_of_list_rows : List ℕ → Conditions
-end_of_list_rows list =
-    (nat_lt 0 (length list) && not (has_list_line list), ListLine)
-    ∷ (nat_lt 0 (length list), ListName)
-    ∷ []
+end_of_list_rows list = if length list == 0 then [] else list_line_rows list ((true, at_field 0 ListName) ∷ [])
 
 -- what the first line claims of the task whose line is to stand there, and the list below it
 unfoldable pub first_claim : ℕ → Task → List ℕ → Result (Response × List ℕ) Refusal

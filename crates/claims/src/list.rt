@@ -1,17 +1,17 @@
 // The lines of a list: `R`, the name of a task, and what is claimed of it, one for each task of a table in its order. specs/Lists.antt says what a list claims, and
 // which refusal it is given.
 
-ghost use Rattle.std.specs.Prelude.{◌≡◌, ◌+◌, false, MatchOption, Ok, take, codes};
+ghost use Rattle.std.specs.Prelude.{◌≡◌, ◌+◌, false, MatchOption, MatchResult, Ok, Err, take, codes};
 ghost use Rattle.table.specs.Fields.{has_shape};
 ghost use Rattle.table.specs.Rows.{unless_fault};
 ghost use Rattle.table.specs.Tables.{at};
 ghost use Rattle.table.specs.Reading.{told, then_read};
-ghost use Rattle.claims.specs.Lists.{read_claim, AreListFields, is_list_line, SaysListLine, has_list_line, BeginsWithLine, first_claim, end_of_list_rows, claims_in};
+ghost use Rattle.claims.specs.Lists.{read_claim, AreListFields, list_line_checked, BeginsWithLine, first_claim, end_of_list_rows, claims_in};
 
 use cache::units::Ticks;
 use search::demand::Response;
 use table::accepted::{Accepted, Pending};
-use table::refusals::{Reason, Refusal};
+use table::refusals::{Fault, Reason, Refusal};
 use table::text::Fields;
 use table::{Table, fields, text};
 
@@ -56,29 +56,24 @@ fn cut(line: &[u8]) -> Option<ListFields<'_>>
     }
 }
 
-// What a line says, where it is a list line.
-#[tactic(auto, unfolding(crate::specs::Lists::is_list_line))]
-fn read_line(line: &[u8]) -> Option<Claimed<'_>>
-    ensures { MatchOption result (is_list_line line.now ≡ false) (SaysListLine line.now) }
-{
-    let ListFields { name, claim } = cut(line)?;
-    if !fields::is_name(name) {
-        return None;
-    }
-    let claim = read_claim(claim)?;
-    Some(Claimed { name, claim })
-}
-
 // What the first line of a list says, and the list below it, where it is ended and a list line.
-fn first_line(list: &[u8]) -> Option<(Claimed<'_>, &[u8])>
-    ensures { MatchOption result (has_list_line list.now ≡ false) (λ first. BeginsWithLine list.now first.0 first.1.now) }
+#[tactic(auto, using(std::proofs::lemmas::Bool::Decides::nat_tests), unfolding(table::specs::Rows::unless_fault))]
+fn first_line(list: &[u8]) -> Result<(Claimed<'_>, &[u8]), Fault>
+    ensures { MatchResult result (λ first. BeginsWithLine list.now first.0 first.1.now) (λ fault. list_line_checked list.now ≡ Err fault) }
 {
     let (line, below) = text::next_line(list);
-    if list.len() <= line.len() {
-        return None;
+    if text::first_field(line) != b"R".as_slice() {
+        return Err(Reason::ListLine.at(0));
     }
-    let said = read_line(line)?;
-    Some((said, below))
+    let ListFields { name, claim } = cut(line).ok_or(Reason::ListLine.at(3))?;
+    if !fields::is_name(name) {
+        return Err(Reason::ListLine.at(1));
+    }
+    let claim = read_claim(claim).ok_or(Reason::ListLine.at(2))?;
+    if list.len() <= line.len() {
+        return Err(Reason::ListLine.alone());
+    }
+    Ok((Claimed { name, claim }, below))
 }
 
 // What the first line of a list claims of the task at i, and the list below it, or why it is refused. It is line i + 1 of the whole list.
@@ -88,22 +83,14 @@ fn next_claim<'a>(list: &'a [u8], pending: Pending) -> Result<(Response, &'a [u8
 {
     let line = pending.i as u64 + 1;
     if list.is_empty() {
-        return Err(Refusal {
-            reason: Reason::ListName,
-            line,
-        });
+        return Err(Reason::ListName.alone().on(line));
     }
-    let Some((said, below)) = first_line(list) else {
-        return Err(Refusal {
-            reason: Reason::ListLine,
-            line,
-        });
+    let (said, below) = match first_line(list) {
+        Ok(first) => first,
+        Err(fault) => return Err(fault.on(line)),
     };
     if !fields::same_bytes(said.name, pending.task().name.text()) {
-        return Err(Refusal {
-            reason: Reason::ListName,
-            line,
-        });
+        return Err(Reason::ListName.at(1).on(line));
     }
     Ok((said.claim, below))
 }
@@ -116,11 +103,10 @@ fn check_end(list: &[u8], line: u64) -> Result<(), Refusal>
     if list.is_empty() {
         return Ok(());
     }
-    let reason = match first_line(list) {
-        None => Reason::ListLine,
-        Some(_) => Reason::ListName,
-    };
-    Err(Refusal { reason, line })
+    match first_line(list) {
+        Err(fault) => Err(fault.on(line)),
+        Ok(_) => Err(Reason::ListName.at(0).on(line)),
+    }
 }
 
 // What a list claims of each task of a table, at the task's position, or its first refusal. No more of it is read than the table has tasks, and one line.

@@ -1,8 +1,9 @@
 -- Plain tables, of which no task has a jitter above 0, and that have no access; and the refusals of others.
 use Rattle.std.specs.Prelude.{ℕ, ◌+◌, ◌≡◌, ◌<◌, Option, Some, None, Result, Ok, Err, position, option_map, if◌then◌else◌, nat_lt, ⊤}
-use Rattle.table.specs.declared.refusals.Reason.{Reason}
+use Rattle.table.specs.declared.refusals.Fault.{Fault}
 use Rattle.table.specs.declared.refusals.Reason.TheVariants.{HasJitter, HasAccess}
 use Rattle.table.specs.declared.refusals.Refusal.{Refusal}
+use Rattle.table.specs.Faults.{at_field, on_line}
 use Rattle.table.specs.declared.Table.{Table}
 use Rattle.table.specs.Tables.{tasks_of, at}
 use Rattle.table.specs.Reading.{◌>>=◌}
@@ -16,15 +17,15 @@ abbrev pub first_access : Table → Option ℕ
 first_access table = if nat_lt 0 table.access_count then Some (table.count + 2) else None
 
 -- the refusal that tells a line, if there is one
-abbrev pub unless_line : Reason → Option ℕ → Result ⊤ Refusal
-unless_line reason None = Ok tt
-unless_line reason (Some line) = Err (record { reason = reason; line = line })
+abbrev pub unless_line : Fault → Option ℕ → Result ⊤ Refusal
+unless_line fault None = Ok tt
+unless_line fault (Some line) = Err (on_line line fault)
 
 -- the refusal of a table that is not plain
 unfoldable pub plain_checked : Table → Result ⊤ Refusal
 plain_checked table = do
-  _ ← unless_line HasJitter (first_jitter table)
-  unless_line HasAccess (first_access table)
+  _ ← unless_line (at_field 5 HasJitter) (first_jitter table)
+  unless_line (at_field 0 HasAccess) (first_access table)
 
 -- what a plain table is
 pub record Plain (table : Table) : Type 0 where

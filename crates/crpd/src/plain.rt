@@ -18,23 +18,21 @@ fn first_jitter(table: &Table) -> Option<usize>
     table.tasks().iter().position(|task| 0 < task.jitter.0)
 }
 
-// Refuses a table that is not plain, telling the first line that shows it: of a jitter, else of an access.
+// Refuses a table that is not plain, telling the first line that shows it: the field of a jitter, else the letter of an access.
 #[tactic(auto, unfolding(crate::specs::Plain::plain_checked))]
 pub fn check(accepted: Accepted) -> Result<(), Refusal>
     ensures { result ≡ plain_checked accepted.entry.table.now }
 {
     let table = accepted.table;
     if let Some(k) = first_jitter(table) {
-        return Err(Refusal {
-            reason: Reason::HasJitter,
-            line: k as u64 + FIRST_TASK_LINE,
-        });
+        return Err(Reason::HasJitter.at(5).on(k as u64 + FIRST_TASK_LINE));
     }
     if 0 < table.access_count {
-        return Err(Refusal {
-            reason: Reason::HasAccess,
-            line: table.count as u64 + FIRST_TASK_LINE,
-        });
+        return Err(
+            Reason::HasAccess
+                .at(0)
+                .on(table.count as u64 + FIRST_TASK_LINE),
+        );
     }
     Ok(())
 }

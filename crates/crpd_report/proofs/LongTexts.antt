@@ -6,13 +6,14 @@ use Rattle.std.proofs.lemmas.Bool.{lt-ltb}
 use Rattle.std.specs.Prelude.{Option}
 use Rattle.std.specs.Io.KnownBytes.{Consumes, Appends}
 use Rattle.table.specs.declared.refusals.Reason.TheVariants.{TooLong}
+use Rattle.table.specs.Faults.{no_field}
 use Rattle.table.specs.Rows.{unless_fault}
 use Rattle.table.specs.Reading.{read_text, refused}
 use Rattle.crpd.specs.declared.Outcome.{Outcome}
 use Rattle.crpd.specs.Operations.{printed, outcome_to}
 use Rattle.crpd_report.specs.Runs.{AppendsPart}
 
-too_long : (text : List ℕ) → 16384 < length text → read_text text ≡ refused TooLong 0
+too_long : (text : List ℕ) → 16384 < length text → read_text text ≡ refused (no_field TooLong) 0
 unfolding read_text unless_fault
 too_long text long = rw (lt-ltb 16384 (length text) long) refl
 

@@ -1,15 +1,15 @@
-// What a refusal finds in a text: what is wrong in words, and where in the line. The reader tells a number and a line; which field it is, and why, is looked up in
-// the text again.
+// What a refusal finds in a text: what is wrong in words, and where in the line. The refusal tells which line and which field of it; words on what the field has to be
+// go by forms, and those on what stands elsewhere, on another line of the text, by that.
 
 use crate::excerpt::Part;
-use crate::forms::{self, Kind, LineKind};
+use crate::forms::{self, Field, Kind, LineKind};
 use crate::spelling;
 use cache::units::Ticks;
 use replay::LONGEST_REPLAY;
 use std::alloc::{AllocError, Global};
 use std::fmt::Write;
 use table::Table;
-use table::fields::{is_name, read_number};
+use table::fields::{is_within, read_number};
 use table::refusals::{Reason, Refusal};
 use table::text::{Fields, Lines};
 
@@ -153,82 +153,124 @@ fn kind_of(line: &[u8], number: u64) -> LineKind {
     }
 }
 
+// A field of a line of the text that a refusal tells.
+#[derive(Clone, Copy)]
+struct Told<'a> {
+    text: &'a [u8],
+    number: u64,
+    line: &'a [u8],
+    at: usize,
+}
+
+impl<'a> Told<'a> {
+    fn kind(self) -> LineKind {
+        kind_of(self.line, self.number)
+    }
+
+    fn field(self) -> Field {
+        self.kind().field(self.at)
+    }
+
+    fn bytes(self) -> &'a [u8] {
+        field_of(self.line, self.at)
+    }
+}
+
 // What a refusal finds in its line.
 fn in_line(alloc: Global, text: &[u8], line: &[u8], refusal: Refusal) -> Found {
-    match refusal.reason {
-        Reason::Shape => wrong_shape(alloc, line, refusal.line),
-        Reason::Name | Reason::Number | Reason::Range | Reason::Marks | Reason::TooManyBlocks => {
-            wrong_field(alloc, text, line, refusal)
-        }
-        Reason::Order => wrong_order(alloc, line),
-        Reason::KnownName => known_name(alloc, text, line, refusal.line),
-        Reason::TooManyTasks => too_many(alloc, line, Table::MOST_TASKS, "task"),
-        Reason::TooManyAccesses => too_many(alloc, line, Table::MOST_ACCESSES, "access"),
-        Reason::OtherTask => wrong_access(alloc, text, line, refusal.line),
-        Reason::HasJitter => told_at(
-            alloc,
-            "the jitter is above 0: this is not answered where there is one",
-            place_of(line, forms::JITTER),
-        ),
-        Reason::HasAccess => told_at(
-            alloc,
-            "there is an access: this is not answered where there is one",
-            place_of(line, 0),
-        ),
-        Reason::Blocking => told_at(
-            alloc,
-            "the blocking is above 0: what blocks a task stands on access lines",
-            place_of(line, forms::BLOCKING),
-        ),
-        _ => refused(alloc),
+    let Some(at) = refusal.field else {
+        return refused(alloc);
+    };
+    let told = Told {
+        text,
+        number: refusal.line,
+        line,
+        at,
+    };
+    let mark = if refusal.reason == Reason::Shape {
+        from_field(line, at)
+    } else {
+        place_of(line, at)
+    };
+    Ok(Finding {
+        words: words_of(alloc, refusal.reason, told)?,
+        mark: Some(mark),
+    })
+}
+
+// A field that is surplus, with those behind it; the first one alone.
+pub fn from_field(line: &[u8], at: usize) -> Part {
+    let place = place_of(line, at);
+    if at == 0 {
+        return place;
+    }
+    Part {
+        start: place.start,
+        end: line.len(),
     }
 }
 
-fn known_name(alloc: Global, text: &[u8], line: &[u8], number: u64) -> Found {
-    let name = field_of(line, forms::NAME);
-    let above = line_named(text, number, name).unwrap_or(0);
-    let words = format!(in alloc; "the name stands on line {above} already")?;
-    Ok(at(words, place_of(line, forms::NAME)))
+type Words = Result<String, AllocError>;
+
+// What is wrong with the field that is told.
+fn words_of(alloc: Global, reason: Reason, told: Told) -> Words {
+    let words = match reason {
+        Reason::Shape => return wrong_shape(alloc, told),
+        Reason::Name => return faulty(alloc, told, NO_NAME),
+        Reason::Number => return faulty(alloc, told, NO_NUMBER),
+        Reason::Range => return outside(alloc, told),
+        Reason::Marks => return wrong_marks(alloc, told),
+        Reason::TooManyBlocks => return too_many_blocks(alloc, told),
+        Reason::Order => return wrong_order(alloc, told),
+        Reason::KnownName => return known_name(alloc, told),
+        Reason::TooManyTasks => return too_many(alloc, Table::MOST_TASKS, "task"),
+        Reason::TooManyAccesses => return too_many(alloc, Table::MOST_ACCESSES, "access"),
+        Reason::OtherTask => return wrong_access(alloc, told),
+        Reason::HasJitter => "the jitter is above 0: this is not answered where there is one",
+        Reason::HasAccess => "there is an access: this is not answered where there is one",
+        Reason::Blocking => "the blocking is above 0: what blocks a task stands on access lines",
+        _ => "the text is refused",
+    };
+    String::from_str(alloc, words)
 }
 
-fn too_many(alloc: Global, line: &[u8], most: usize, what: &str) -> Found {
-    let words = format!(in alloc; "there are more than {most} {what} lines")?;
-    Ok(at(words, place_of(line, 0)))
+pub const NO_NAME: &str = "is not 1 to 12 of the characters a-z, 0-9 and -";
+
+const NO_NUMBER: &str = "is not a number: 0, or up to nine digits that do not start with 0";
+
+fn faulty(alloc: Global, told: Told, fault: &str) -> Words {
+    let called = told.field().called;
+    format!(in alloc; "{called} {fault}")
 }
 
-fn wrong_shape(alloc: Global, line: &[u8], number: u64) -> Found {
-    let kind = kind_of(line, number);
-    let (found, most) = (fields_in(line), kind.most_fields());
-    if kind == LineKind::Unknown {
-        let words = if number == 1 {
+fn known_name(alloc: Global, told: Told) -> Words {
+    let above = line_named(told.text, told.number, told.bytes()).unwrap_or(0);
+    format!(in alloc; "the name stands on line {above} already")
+}
+
+fn too_many(alloc: Global, most: usize, what: &str) -> Words {
+    format!(in alloc; "there are more than {most} {what} lines")
+}
+
+fn wrong_shape(alloc: Global, told: Told) -> Words {
+    let kind = told.kind();
+    if told.at == 0 {
+        let words = if told.number == 1 {
             "the first line does not start with the field K"
-        } else {
+        } else if kind == LineKind::Unknown {
             "the line starts with neither T nor A"
+        } else {
+            "a task line stands below an access line"
         };
-        return told_at(alloc, words, place_of(line, 0));
+        return String::from_str(alloc, words);
     }
-    if found == most {
-        return told_at(
-            alloc,
-            "a task line stands below an access line",
-            place_of(line, 0),
-        );
-    }
-    let (letter, found) = (kind.letter(), spelling::number(alloc, found as u64)?);
-    let wanted = wanted_fields(alloc, kind)?;
-    let words = format!(in alloc; "a line {letter} has {wanted} fields, and this one {found}")?;
-    let start = place_of(line, most).start;
-    Ok(at(
-        words,
-        Part {
-            start,
-            end: line.len(),
-        },
-    ))
+    let found = spelling::number(alloc, fields_in(told.line) as u64)?;
+    let (letter, wanted) = (kind.letter(), wanted_fields(alloc, kind)?);
+    format!(in alloc; "a line {letter} has {wanted} fields, and this one {found}")
 }
 
 // How many fields a line has to have, in words.
-fn wanted_fields(alloc: Global, kind: LineKind) -> Result<String, AllocError> {
+fn wanted_fields(alloc: Global, kind: LineKind) -> Words {
     let most = kind.most_fields();
     if kind == LineKind::Cache {
         let less = most.saturating_sub(1);
@@ -261,160 +303,58 @@ impl Cache {
     }
 }
 
-// The first field that is what the refusal says.
-fn wrong_field(alloc: Global, text: &[u8], line: &[u8], refusal: Refusal) -> Found {
-    let kind = kind_of(line, refusal.line);
-    let cache = Cache::of(text);
-    for k in 0..kind.most_fields().min(fields_in(line)) {
-        let field = kind.field(k);
-        if let Some(fault) = fault(alloc, field.kind, field_of(line, k), refusal.reason, cache)? {
-            let (called, fault) = (field.called, fault.as_str());
-            let words = format!(in alloc; "{called} {fault}")?;
-            return Ok(at(words, place_of(line, k)));
+fn outside(alloc: Global, told: Told) -> Words {
+    let number = read_number(told.bytes()).unwrap_or(0);
+    match told.field().kind {
+        Kind::Number(least, most) => out_of_range(alloc, told, least, most),
+        Kind::SetCount if is_within(forms::SETS_STEP, forms::SETS_MOST, number) => {
+            let step = forms::SETS_STEP;
+            let fault = format!(in alloc; "is no multiple of {step}")?;
+            faulty(alloc, told, fault.as_str())
         }
-    }
-    refused(alloc)
-}
-
-// A fault in words, if there is one.
-type Fault = Result<Option<String>, AllocError>;
-
-fn faulty(alloc: Global, is_one: bool, words: &str) -> Fault {
-    if is_one {
-        Ok(Some(String::from_str(alloc, words)?))
-    } else {
-        Ok(None)
+        _ => out_of_range(alloc, told, forms::SETS_STEP, forms::SETS_MOST),
     }
 }
 
-// What is wrong with a field by itself, if it is what the reason says.
-fn fault(alloc: Global, kind: Kind, text: &[u8], reason: Reason, cache: Cache) -> Fault {
-    match reason {
-        Reason::Name => wrong_name(alloc, kind, text),
-        Reason::Number => no_number(alloc, kind, text),
-        Reason::Range => outside(alloc, kind, text),
-        Reason::Marks => wrong_marks(alloc, kind, text, cache),
-        Reason::TooManyBlocks => too_many_blocks(alloc, kind, text, cache),
-        _ => Ok(None),
-    }
-}
-
-fn wrong_name(alloc: Global, kind: Kind, text: &[u8]) -> Fault {
-    match kind {
-        Kind::Name => faulty(
-            alloc,
-            !is_name(text),
-            "is not 1 to 12 of the characters a-z, 0-9 and -",
-        ),
-        _ => Ok(None),
-    }
-}
-
-fn no_number(alloc: Global, kind: Kind, text: &[u8]) -> Fault {
-    match kind {
-        Kind::Number(_, _) | Kind::SetCount => faulty(
-            alloc,
-            read_number(text).is_none(),
-            "is not a number: 0, or up to nine digits that do not start with 0",
-        ),
-        _ => Ok(None),
-    }
-}
-
-fn outside(alloc: Global, kind: Kind, text: &[u8]) -> Fault {
-    let Some(number) = read_number(text) else {
-        return Ok(None);
-    };
-    match kind {
-        Kind::Number(least, most) => out_of_range(alloc, number, least, most),
-        Kind::SetCount => wrong_count(alloc, number),
-        _ => Ok(None),
-    }
-}
-
-fn wrong_marks(alloc: Global, kind: Kind, text: &[u8], cache: Cache) -> Fault {
-    match kind {
-        Kind::Sets => wrong_sets(alloc, text, cache.sets / forms::SETS_STEP),
-        Kind::Useful => match cache.ways {
-            Some(_) => wrong_counts(alloc, text, cache.sets),
-            None => wrong_sets(alloc, text, cache.sets / forms::SETS_STEP),
-        },
-        _ => Ok(None),
-    }
-}
-
-fn too_many_blocks(alloc: Global, kind: Kind, text: &[u8], cache: Cache) -> Fault {
-    match (kind, cache.ways) {
-        (Kind::Useful, Some(ways)) => above_ways(alloc, text, ways),
-        _ => Ok(None),
-    }
-}
-
-fn out_of_range(alloc: Global, number: u64, least: u64, most: u64) -> Fault {
-    if least <= number && number <= most {
-        return Ok(None);
-    }
+fn out_of_range(alloc: Global, told: Told, least: u64, most: u64) -> Words {
     let (low, high) = (
         spelling::number(alloc, least)?,
         spelling::number(alloc, most)?,
     );
-    Ok(Some(format!(in alloc; "is not in the range from {low} to {high}")?))
+    let fault = format!(in alloc; "is not in the range from {low} to {high}")?;
+    faulty(alloc, told, fault.as_str())
 }
 
-fn wrong_count(alloc: Global, count: u64) -> Fault {
-    let outside = out_of_range(alloc, count, forms::SETS_STEP, forms::SETS_MOST)?;
-    if outside.is_some() || count % forms::SETS_STEP == 0 {
-        return Ok(outside);
+fn wrong_marks(alloc: Global, told: Told) -> Words {
+    let cache = Cache::of(told.text);
+    match (told.field().kind, cache.ways) {
+        (Kind::Useful, Some(_)) => {
+            let digits = spelling::counted(alloc, cache.sets, "digit")?;
+            let fault = format!(in alloc; "are not {digits} of 0-9, one for each cache set")?;
+            faulty(alloc, told, fault.as_str())
+        }
+        _ => {
+            let digits = spelling::counted(alloc, cache.sets / forms::SETS_STEP, "digit")?;
+            let fault = format!(in alloc; "are not {digits} of 0-9 and a-f")?;
+            faulty(alloc, told, fault.as_str())
+        }
     }
-    let step = forms::SETS_STEP;
-    Ok(Some(format!(in alloc; "is no multiple of {step}")?))
 }
 
-fn is_hex_digit(byte: u8) -> bool {
-    matches!(byte, b'0'..=b'9' | b'a'..=b'f')
+fn too_many_blocks(alloc: Global, told: Told) -> Words {
+    let ways = spelling::counted(alloc, Cache::of(told.text).ways.unwrap_or(0), "way")?;
+    let fault = format!(in alloc; "have a count above the {ways} of a cache set")?;
+    faulty(alloc, told, fault.as_str())
 }
 
-fn wrong_sets(alloc: Global, text: &[u8], count: u64) -> Fault {
-    if text.len() as u64 == count && text.iter().all(|byte| is_hex_digit(*byte)) {
-        return Ok(None);
-    }
-    let digits = spelling::counted(alloc, count, "digit")?;
-    Ok(Some(format!(in alloc; "are not {digits} of 0-9 and a-f")?))
-}
-
-fn wrong_counts(alloc: Global, text: &[u8], count: u64) -> Fault {
-    if text.len() as u64 == count && text.iter().all(|byte| byte.is_ascii_digit()) {
-        return Ok(None);
-    }
-    let digits = spelling::counted(alloc, count, "digit")?;
-    Ok(Some(format!(in alloc; "are not {digits} of 0-9, one for each cache set")?))
-}
-
-fn above_ways(alloc: Global, text: &[u8], ways: u64) -> Fault {
-    if text
-        .iter()
-        .all(|byte| byte.saturating_sub(b'0') as u64 <= ways)
-    {
-        return Ok(None);
-    }
-    let ways = spelling::counted(alloc, ways, "way")?;
-    Ok(Some(format!(in alloc; "have a count above the {ways} of a cache set")?))
-}
-
-fn wrong_order(alloc: Global, line: &[u8]) -> Found {
-    let number = |at: usize| read_number(field_of(line, at)).unwrap_or(0);
-    if number(forms::PERIOD) < number(forms::DEADLINE) {
-        return told_at(
-            alloc,
-            "the deadline is longer than the period",
-            place_of(line, forms::DEADLINE),
-        );
-    }
-    told_at(
-        alloc,
-        "the jitter is longer than the deadline",
-        place_of(line, forms::JITTER),
-    )
+// The field is longer than the one before it.
+fn wrong_order(alloc: Global, told: Told) -> Words {
+    let kind = told.kind();
+    let (called, before) = (
+        told.field().called,
+        kind.field(told.at.saturating_sub(1)).called,
+    );
+    format!(in alloc; "{called} is longer than {before}")
 }
 
 // The first task line above a line that has a name.
@@ -433,17 +373,10 @@ fn line_named(text: &[u8], below: u64, name: &[u8]) -> Option<u64> {
     None
 }
 
-fn wrong_access(alloc: Global, text: &[u8], line: &[u8], number: u64) -> Found {
-    for k in [forms::OWNER, forms::CEILING] {
-        if line_named(text, number, field_of(line, k)).is_none() {
-            let called = LineKind::Access.field(k).called;
-            let words = format!(in alloc; "no task has {called}")?;
-            return Ok(at(words, place_of(line, k)));
-        }
+fn wrong_access(alloc: Global, told: Told) -> Words {
+    if line_named(told.text, told.number, told.bytes()).is_some() {
+        return String::from_str(alloc, "the ceiling is below the task");
     }
-    told_at(
-        alloc,
-        "the ceiling is below the task",
-        place_of(line, forms::CEILING),
-    )
+    let called = told.field().called;
+    format!(in alloc; "no task has {called}")
 }

@@ -92,16 +92,8 @@ fn cache_field(at: usize) -> Field {
     }
 }
 
-// Places of a task line.
+// The name's place on a task line.
 pub const NAME: usize = 1;
-
-pub const PERIOD: usize = 3;
-
-pub const DEADLINE: usize = 4;
-
-pub const JITTER: usize = 5;
-
-pub const BLOCKING: usize = 6;
 
 fn task_field(at: usize) -> Field {
     match at {
@@ -116,11 +108,6 @@ fn task_field(at: usize) -> Field {
         _ => named("the letter", Kind::Letter),
     }
 }
-
-// Places of an access line.
-pub const OWNER: usize = 1;
-
-pub const CEILING: usize = 2;
 
 fn access_field(at: usize) -> Field {
     match at {

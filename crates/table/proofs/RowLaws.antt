@@ -1,12 +1,12 @@
 -- What a value that is judged by rows of conditions is.
 use Rattle.std.proofs.Common.{ℕ, ◌≡◌, refl, Bool, true, false, cond, [], ◌∷◌, arith}
 use Rattle.std.specs.Prelude.{Ok, Err}
-use Rattle.table.specs.declared.refusals.Reason.{Reason}
+use Rattle.table.specs.declared.refusals.Fault.{Fault}
 use Rattle.table.specs.Rows.{Conditions, unless_fault}
 
 module _ {X Y : Type 0} where
   -- the refusal does not depend on what is judged
-  pub fault-any : (rows : Conditions) (x : X) (y : Y) {e : Reason} → unless_fault rows x ≡ Err e → unless_fault rows y ≡ Err e
+  pub fault-any : (rows : Conditions) (x : X) (y : Y) {e : Fault} → unless_fault rows x ≡ Err e → unless_fault rows y ≡ Err e
   unfolding unless_fault
   fault-any [] x y {e} h = let z : ◌≡◌ {A = ℕ} 0 1 = cc in absurd (omega arith)
   fault-any (r ∷ rows) x y {e} h = go r.0 h (fault-any rows x y)
@@ -26,7 +26,7 @@ module _ {X Y : Type 0} where
       go false k f = f k
 
 -- where no condition of several rows is met, the first is not, and those behind it are not
-pub fine-row : {X : Type 0} (t : Bool) (reason : Reason) (rows : Conditions) (x z : X) → unless_fault ((t, reason) ∷ rows) x ≡ Ok z → (t ≡ false) × (unless_fault rows x ≡ Ok z)
+pub fine-row : {X : Type 0} (t : Bool) (fault : Fault) (rows : Conditions) (x z : X) → unless_fault ((t, fault) ∷ rows) x ≡ Ok z → (t ≡ false) × (unless_fault rows x ≡ Ok z)
 unfolding unless_fault
-fine-row true reason rows x z e = let q : ◌≡◌ {A = ℕ} 0 1 = cc in absurd (omega arith)
-fine-row false reason rows x z e = (refl, e)
+fine-row true fault rows x z e = let q : ◌≡◌ {A = ℕ} 0 1 = cc in absurd (omega arith)
+fine-row false fault rows x z e = (refl, e)

@@ -2,7 +2,7 @@
 use Rattle.std.proofs.Common.{◌≡◌, ℕ, ◌+◌, ◌≤◌, Bool, true, false, cond, List, [], ◌∷◌, length, arith, refl, Some, Result, Ok, Err, ltb-false}
 use Rattle.table.specs.Cut.{lines}
 use Rattle.table.proofs.Lines.{lines_long}
-use Rattle.table.specs.declared.refusals.Reason.{Reason}
+use Rattle.table.specs.declared.refusals.Fault.{Fault}
 use Rattle.table.specs.declared.refusals.Refusal.{Refusal}
 use Rattle.table.specs.Rows.{Conditions, unless_fault}
 use Rattle.table.proofs.RowLaws.{fine-row}
@@ -16,9 +16,9 @@ abbrev pub ToldBy : {X : Type 0} → ℕ → Result X Refusal → Type 0
 ToldBy most (Ok x) = Unit {0}
 ToldBy most (Err r) = r.line ≤ most
 
-told-by : {X : Type 0} (line most : ℕ) (r : Result X Reason) → line ≤ most → ToldBy most (told line r)
+told-by : {X : Type 0} (line most : ℕ) (r : Result X Fault) → line ≤ most → ToldBy most (told line r)
 told-by line most (Ok x) h = tt
-told-by line most (Err reason) h = h
+told-by line most (Err fault) h = h
 
 then-told : {X Y : Type 0} (most : ℕ) (r : Result X Refusal) (next : X → Result Y Refusal) → ToldBy most r → ((x : X) → ToldBy most (next x)) → ToldBy most (then_read r next)
 then-told most (Ok x) next p q = q x

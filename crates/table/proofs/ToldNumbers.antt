@@ -5,6 +5,7 @@ use Rattle.table.specs.Cut.{lines}
 use Rattle.table.specs.declared.refusals.Reason.TheVariants.{Shape, NoTask}
 use Rattle.table.specs.declared.refusals.Refusal.{Refusal}
 use Rattle.table.specs.Numbers.{reason_number}
+use Rattle.table.specs.Faults.{at_field, no_field}
 use Rattle.table.specs.Rows.{Conditions, unless_fault}
 use Rattle.cache.specs.declared.useful.Form.{Form}
 use Rattle.table.specs.declared.tasks.Task.{Task}
@@ -23,7 +24,7 @@ NumberedLow (Err r) = reason_number r.reason ≤ 18
 -- so have the reasons of all conditions
 abbrev LowRows : Conditions → Type 0
 LowRows [] = Unit {0}
-LowRows (r ∷ rows) = (reason_number r.1 ≤ 18) × LowRows rows
+LowRows (r ∷ rows) = (reason_number r.1.reason ≤ 18) × LowRows rows
 
 -- then what is told of them has
 rows-low : {X Y : Type 0} (line : ℕ) (rows : Conditions) (x : X) (next : X → Result Y Refusal) → LowRows rows → NumberedLow (next x)
@@ -39,16 +40,16 @@ rows-low line (r ∷ rows) x next low p = go r.0 (rows-low line rows x next low.
 task-low : (form : Form) (sets : ℕ) (above : List Task) (l : List ℕ) → LowRows (task_rows form sets above l)
 unfolding task_rows
 task-low form sets above l =
-    (omega arith, (omega arith, (omega arith, (omega arith, (omega arith, (omega arith, (omega arith, (omega arith, tt))))))))
+    (omega arith, (omega arith, (omega arith, (omega arith, (omega arith, (omega arith, (omega arith, (omega arith, (omega arith, (omega arith, (omega arith, (omega arith, (omega arith, (omega arith, (omega arith, (omega arith, (omega arith, (omega arith, tt))))))))))))))))))
 
 access-low : (form : Form) (sets : ℕ) (tasks : List Task) (l : List ℕ) → LowRows (access_rows form sets tasks l)
 unfolding access_rows
-access-low form sets tasks l = (omega arith, (omega arith, (omega arith, (omega arith, (omega arith, (omega arith, (omega arith, tt)))))))
+access-low form sets tasks l = (omega arith, (omega arith, (omega arith, (omega arith, (omega arith, (omega arith, (omega arith, (omega arith, (omega arith, tt)))))))))
 
 line-low : (table : Table) (l : List ℕ) → LowRows (line_rows table l)
 line-low table l = go (is_task_line l) (is_access_line l)
   where
-    go : (s t : Bool) → LowRows (cond s (task_line_rows table l) (cond t (access_line_rows table l) ((true, Shape) ∷ [])))
+    go : (s t : Bool) → LowRows (cond s (task_line_rows table l) (cond t (access_line_rows table l) ((true, at_field 0 Shape) ∷ [])))
     go true t = (omega arith, (omega arith, task-low table.form table.sets (tasks_of table) l))
     go false true = (omega arith, access-low table.form table.sets (tasks_of table) l)
     go false false = (omega arith, tt)
@@ -57,7 +58,7 @@ from-low : (ls : List (List ℕ)) (line : ℕ) (table : Table) → NumberedLow (
 unfolding read_from ended unless_fault
 from-low [] line table = go (table.count == 0)
   where
-    go : (t : Bool) → NumberedLow (told 1 (cond t (Err NoTask) (Ok table)))
+    go : (t : Bool) → NumberedLow (told 1 (cond t (Err (no_field NoTask)) (Ok table)))
     go true = omega arith
     go false = tt
 from-low (l ∷ ls) line table =
@@ -73,7 +74,7 @@ lines-low : (ls : List (List ℕ)) → NumberedLow (read_lines ls)
 unfolding read_lines
 lines-low [] = omega arith
 lines-low (l ∷ ls) =
-    rows-low 1 (head_rows l) (head_said l) (λ head. read_below (new_table head) ls) (omega arith, (omega arith, (omega arith, tt)))
+    rows-low 1 (head_rows l) (head_said l) (λ head. read_below (new_table head) ls) (omega arith, (omega arith, (omega arith, (omega arith, (omega arith, (omega arith, (omega arith, (omega arith, tt))))))))
     (below-low (first_blocked 2 ls) _ (from-low ls 2 (new_table (head_said l))))
 
 pub text-low : (text : List ℕ) → NumberedLow (read_text text)

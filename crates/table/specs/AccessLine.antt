@@ -1,13 +1,14 @@
 -- What an access line says, field by field, and its refusals, each with its condition, in the order in which they are tried.
-use Rattle.std.specs.Prelude.{ℕ, List, [], ◌∷◌, ◌≡◌, true, not, ◌&&◌, length, is_some, unwrap_or, nat_le, nat_lt, ◌==◌}
+use Rattle.std.specs.Prelude.{ℕ, List, [], ◌∷◌, ◌≡◌, true, not, length, is_some, unwrap_or, nat_le, nat_lt, ◌==◌}
 use Rattle.cache.specs.declared.units.TheConstants.Ticks.{LONGEST}
 use Rattle.std.specs.List.{position_or_len}
 use Rattle.table.specs.Cut.{field, field_count}
-use Rattle.table.specs.Fields.{is_number, number, is_name, is_within}
+use Rattle.table.specs.Fields.{number}
 use Rattle.cache.specs.declared.useful.Form.{Form}
 use Rattle.cache.specs.UsefulField.{read_useful, within_ways}
-use Rattle.table.specs.declared.refusals.Reason.TheVariants.{Shape, Name, Number, Range, Marks, TooManyBlocks, OtherTask}
-use Rattle.table.specs.Rows.{Conditions}
+use Rattle.table.specs.declared.refusals.Reason.TheVariants.{Shape, Marks, TooManyBlocks, OtherTask}
+use Rattle.table.specs.Faults.{at_field}
+use Rattle.table.specs.Rows.{Conditions, no_name, no_number, out_of_range}
 use Rattle.table.specs.declared.tasks.Task.{Task}
 use Rattle.table.specs.Names.{has_name}
 use Rattle.table.specs.Tasks.{pack_name, no_blocks}
@@ -35,16 +36,18 @@ access_said form sets tasks line = record {
   ucb = unwrap_or (read_useful form sets (field 4 line)) no_blocks;
 }
 
--- a line whose first field is `A`, below these tasks: both of its names are those of tasks, and the ceiling is the task or above it
+-- a line whose first field is `A`, below these tasks: both of its names are those of tasks, and the ceiling is the task or above it. A ceiling that no task has would be below all
 unfoldable pub access_rows : Form → ℕ → List Task → List ℕ → Conditions
 access_rows form sets tasks line =
     let task = position_named tasks (field 1 line) in
     let ceiling = position_named tasks (field 2 line) in
-    (not (field_count line == 5), Shape)
-    ∷ (not (is_name (field 1 line) && is_name (field 2 line)), Name)
-    ∷ (not (is_number (field 3 line)), Number)
-    ∷ (not (is_within 1 LONGEST (number (field 3 line))), Range)
-    ∷ (not (is_some (read_useful form sets (field 4 line))), Marks)
-    ∷ (not (within_ways form (field 4 line)), TooManyBlocks)
-    ∷ (not (nat_lt task (length tasks) && nat_le ceiling task), OtherTask)
+    (not (field_count line == 5), at_field 5 Shape)
+    ∷ no_name 1 line
+    ∷ no_name 2 line
+    ∷ no_number 3 line
+    ∷ out_of_range 1 LONGEST 3 line
+    ∷ (not (is_some (read_useful form sets (field 4 line))), at_field 4 Marks)
+    ∷ (not (within_ways form (field 4 line)), at_field 4 TooManyBlocks)
+    ∷ (not (nat_lt task (length tasks)), at_field 1 OtherTask)
+    ∷ (not (nat_le ceiling task), at_field 2 OtherTask)
     ∷ []

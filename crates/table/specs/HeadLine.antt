@@ -7,9 +7,10 @@ use Rattle.cache.specs.declared.useful.Form.{Form}
 use Rattle.cache.specs.declared.useful.Form.TheVariants.{Hex, Digits}
 use Rattle.cache.specs.UsefulField.{ways_of}
 use Rattle.table.specs.Cut.{fields, field}
-use Rattle.table.specs.Fields.{is_number, number, read_number, has_shape, is_within}
+use Rattle.table.specs.Fields.{number, read_number, is_of_kind, has_shape, is_within}
 use Rattle.table.specs.declared.refusals.Reason.TheVariants.{Shape, Number, Range}
-use Rattle.table.specs.Rows.{Conditions}
+use Rattle.table.specs.Faults.{at_field}
+use Rattle.table.specs.Rows.{Conditions, no_number, out_of_range}
 use Rattle.table.specs.declared.tasks.head.Head.{Head}
 use Rattle.table.specs.declared.tasks.head.HeadFields.{HeadFields}
 
@@ -30,16 +31,26 @@ read_form (Some f) = option_map Digits (read_number f)
 abbrev pub head_said : List ℕ → Head
 head_said line = record { sets = number (field 1 line); brt = record { 0 = number (field 2 line) }; form = unwrap_or (read_form (ways_field line)) Hex }
 
--- the ranges of line 1, and that the sets come in fours
+-- the range of the sets, which come in fours
+abbrev pub are_sets_in_range : ℕ → Bool
+are_sets_in_range sets = is_within 4 MOST_SETS sets && (sets % 4) == 0
+
+-- the ranges of line 1
 unfoldable pub head_in_range : Head → Bool
 head_in_range head =
-    is_within 4 MOST_SETS head.sets && (head.sets % 4) == 0 && is_within 0 LONGEST_RELOAD head.brt.0 && is_within 1 MOST_WAYS (ways_of head.form)
+    are_sets_in_range head.sets && is_within 0 LONGEST_RELOAD head.brt.0 && is_within 1 MOST_WAYS (ways_of head.form)
 
+-- the refusals of line 1: first, that its first field is not `K`
 abbrev pub head_rows : List ℕ → Conditions
 head_rows line =
-    (not (is_head line), Shape)
-    ∷ (not (is_number (field 1 line) && is_number (field 2 line) && is_some (read_form (ways_field line))), Number)
-    ∷ (not (head_in_range (head_said line)), Range)
+    (not (is_of_kind (codes "K") line), at_field 0 Shape)
+    ∷ (not (is_head line), at_field 4 Shape)
+    ∷ no_number 1 line
+    ∷ no_number 2 line
+    ∷ (not (is_some (read_form (ways_field line))), at_field 3 Number)
+    ∷ (not (are_sets_in_range (number (field 1 line))), at_field 1 Range)
+    ∷ out_of_range 0 LONGEST_RELOAD 2 line
+    ∷ (not (is_within 1 MOST_WAYS (ways_of (head_said line).form)), at_field 3 Range)
     ∷ []
 
 -- these are the fields of line 1, `K` the first

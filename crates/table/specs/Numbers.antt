@@ -2,6 +2,7 @@
 use Rattle.std.specs.Prelude.{ℕ}
 use Rattle.table.specs.declared.refusals.Reason.{Reason}
 use Rattle.table.specs.declared.refusals.Refusal.{Refusal}
+use Rattle.table.specs.Faults.{no_field, on_line}
 use Rattle.table.specs.declared.refusals.Reason.TheVariants.{TooLong, NotEnded, Shape, Name, Number, Range, Marks, Order, KnownName, TooManyTasks, NoTask, Method, Position, ShortBuffer, OtherTask, TooManyAccesses, Blocking, TooManyBlocks, ListLine, ListName, HasJitter, HasAccess, LongHyperperiod, LongDeadline, NoText}
 
 abbrev pub reason_number : Reason → ℕ
@@ -32,4 +33,4 @@ reason_number LongDeadline = 24
 reason_number NoText = 25
 
 abbrev pub untold : Reason → Refusal
-untold reason = record { reason = reason; line = 0 }
+untold reason = on_line 0 (no_field reason)

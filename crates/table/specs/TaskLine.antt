@@ -2,12 +2,13 @@
 use Rattle.std.specs.Prelude.{ℕ, List, [], ◌∷◌, Bool, ◌≡◌, true, not, ◌&&◌, is_some, unwrap_or, nat_le, nat_lt, ◌==◌}
 use Rattle.cache.specs.declared.units.TheConstants.Ticks.{LONGEST}
 use Rattle.table.specs.Cut.{field, field_count}
-use Rattle.table.specs.Fields.{is_number, number, is_name, is_within}
+use Rattle.table.specs.Fields.{number, is_within}
 use Rattle.cache.specs.declared.useful.Form.{Form}
 use Rattle.cache.specs.Field.{read_set}
 use Rattle.cache.specs.UsefulField.{read_useful, within_ways}
-use Rattle.table.specs.declared.refusals.Reason.TheVariants.{Shape, Name, Number, Range, Marks, TooManyBlocks, Order, KnownName}
-use Rattle.table.specs.Rows.{Conditions}
+use Rattle.table.specs.declared.refusals.Reason.TheVariants.{Shape, Marks, TooManyBlocks, KnownName}
+use Rattle.table.specs.Faults.{at_field}
+use Rattle.table.specs.Rows.{Conditions, no_name, no_number, out_of_range, out_of_order}
 use Rattle.table.specs.declared.tasks.Task.{Task}
 use Rattle.table.specs.declared.tasks.line.TaskFields.{TaskFields}
 use Rattle.table.specs.Names.{knows}
@@ -57,20 +58,25 @@ task_said form sets line = record {
   ecb = unwrap_or (read_set sets (field 8 line)) no_sets;
 }
 
--- the times and B are numbers
-abbrev pub are_line_numbers : List ℕ → Bool
-are_line_numbers line = is_number (field 2 line) && is_number (field 3 line) && is_number (field 4 line) && is_number (field 5 line) && is_number (field 6 line)
-
 -- a line whose first field is `T`, below these tasks: each condition is looked for in every field before the next one is
 unfoldable pub task_rows : Form → ℕ → List Task → List ℕ → Conditions
 task_rows form sets above line =
-    let task = task_said form sets line in
-    (not (field_count line == 9), Shape)
-    ∷ (not (is_name (field 1 line)), Name)
-    ∷ (not (are_line_numbers line), Number)
-    ∷ (not (times_in_range task && is_within 0 LONGEST (blocking_said line).0), Range)
-    ∷ (not (is_some (read_useful form sets (field 7 line)) && is_some (read_set sets (field 8 line))), Marks)
-    ∷ (not (within_ways form (field 7 line)), TooManyBlocks)
-    ∷ (not (times_in_order task), Order)
-    ∷ (knows (pack_name (field 1 line)) above, KnownName)
+    (not (field_count line == 9), at_field 9 Shape)
+    ∷ no_name 1 line
+    ∷ no_number 2 line
+    ∷ no_number 3 line
+    ∷ no_number 4 line
+    ∷ no_number 5 line
+    ∷ no_number 6 line
+    ∷ out_of_range 1 LONGEST 2 line
+    ∷ out_of_range 1 LONGEST 3 line
+    ∷ out_of_range 1 LONGEST 4 line
+    ∷ out_of_range 0 LONGEST 5 line
+    ∷ out_of_range 0 LONGEST 6 line
+    ∷ (not (is_some (read_useful form sets (field 7 line))), at_field 7 Marks)
+    ∷ (not (is_some (read_set sets (field 8 line))), at_field 8 Marks)
+    ∷ (not (within_ways form (field 7 line)), at_field 7 TooManyBlocks)
+    ∷ out_of_order 4 3 line
+    ∷ out_of_order 5 4 line
+    ∷ (knows (pack_name (field 1 line)) above, at_field 1 KnownName)
     ∷ []

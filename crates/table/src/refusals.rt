@@ -1,6 +1,7 @@
-// Refusals: why a text or a call is refused, and which line is told.
+// Refusals: why a text or a call is refused, which line is told, and which field of it.
 
 ghost use Rattle.std.specs.Prelude.{◌≡◌};
+ghost use Rattle.table.specs.Faults.{at_field, no_field, on_line};
 ghost use Rattle.table.specs.Numbers.{reason_number, untold};
 
 // Why a text, a table or a call is refused, each with its number.
@@ -39,13 +40,54 @@ impl Reason {
     {
         self as u64
     }
+
+    // The fault of a field for this reason.
+    pub fn at(self, field: usize) -> Fault
+        ensures { result ≡ at_field field self }
+    {
+        Fault {
+            reason: self,
+            field: Some(field),
+        }
+    }
+
+    // The fault that is about no field.
+    pub fn alone(self) -> Fault
+        ensures { result ≡ no_field self }
+    {
+        Fault {
+            reason: self,
+            field: None,
+        }
+    }
 }
 
-// A refusal, and the line that it tells.
+// Why a line or a call is refused, and the field of the line that it is about, if it is about one: counted from 0, and where the line has too few, the place behind them.
+#[derive(Clone, Copy, PartialEq, Eq)]
+pub struct Fault {
+    pub reason: Reason,
+    pub field: Option<usize>,
+}
+
+impl Fault {
+    // The refusal that tells a line.
+    pub fn on(self, line: u64) -> Refusal
+        ensures { result ≡ on_line line self }
+    {
+        Refusal {
+            reason: self.reason,
+            line,
+            field: self.field,
+        }
+    }
+}
+
+// A refusal, the line that it tells, and the field that it is about, if it is about one.
 #[derive(Clone, Copy, PartialEq, Eq)]
 pub struct Refusal {
     pub reason: Reason,
     pub line: u64,
+    pub field: Option<usize>,
 }
 
 impl Refusal {
@@ -53,6 +95,6 @@ impl Refusal {
     pub fn untold(reason: Reason) -> Refusal
         ensures { result ≡ untold reason }
     {
-        Refusal { reason, line: 0 }
+        reason.alone().on(0)
     }
 }

@@ -1,6 +1,6 @@
 -- The line of an access: a line that says what is tested here is not refused and says the same again, and a line that is not refused is what is written of what it
 -- says, which passes the tests.
-use Rattle.std.proofs.Common.{◌≡◌, ℕ, ◌%◌, ◌≤◌, ◌<◌, true, false, ◌&&◌, List, [], ◌∷◌, length, get_or, refl, ap, ◌∙◌, arith, Ok, ltb-true, leb-true, lt-ltb, le-leb, ltb, leb, codes, ◌==◌, eqb-true}
+use Rattle.std.proofs.Common.{◌≡◌, ℕ, ◌%◌, ◌≤◌, ◌<◌, true, false, List, [], ◌∷◌, length, get_or, refl, ap, ◌∙◌, arith, Ok, ltb-true, leb-true, lt-ltb, le-leb, ltb, leb, codes, ◌==◌, eqb-true}
 use Rattle.std.proofs.lemmas.Slice.Eq.{bytes_eq-Decides}
 use Rattle.std.proofs.lemmas.List.Sums.{position_or_len_is, passes_at_first}
 use Rattle.std.specs.Prelude.{is_some, unwrap_or}
@@ -108,12 +108,14 @@ module _ (form : Form) (w : ways_of form ≤ 8) (sets : ℕ) (few : sets ≤ 256
   module _ (l : List ℕ) (e : unless_fault (access_rows form sets ts l) (tt {0}) ≡ Ok (tt {0})) where
     record Rows : Type 0 where
       five : (field_count l == 5) ≡ true
-      names : (is_name (field 1 l) && is_name (field 2 l)) ≡ true
+      name : is_name (field 1 l) ≡ true
+      of-ceiling : is_name (field 2 l) ≡ true
       numeral : is_number (field 3 l) ≡ true
       lasts : is_within 1 250000000 (number (field 3 l)) ≡ true
       marks : is_some (read_useful form sets (field 4 l)) ≡ true
       few-blocks : within_ways form (field 4 l) ≡ true
-      positions : (ltb (position_named ts (field 1 l)) (length ts) && leb (position_named ts (field 2 l)) (position_named ts (field 1 l))) ≡ true
+      task : ltb (position_named ts (field 1 l)) (length ts) ≡ true
+      ceiling : leb (position_named ts (field 2 l)) (position_named ts (field 1 l)) ≡ true
 
     rows : Rows
     unfolding access_rows
@@ -125,27 +127,29 @@ module _ (form : Form) (w : ways_of form ≤ 8) (sets : ℕ) (few : sets ≤ 256
         let r5 = fine-row _ _ _ _ _ r4.1 in
         let r6 = fine-row _ _ _ _ _ r5.1 in
         let r7 = fine-row _ _ _ _ _ r6.1 in
+        let r8 = fine-row _ _ _ _ _ r7.1 in
+        let r9 = fine-row _ _ _ _ _ r8.1 in
         record {
           five = not-false _ r1.0;
-          names = not-false _ r2.0;
-          numeral = not-false _ r3.0;
-          lasts = not-false _ r4.0;
-          marks = not-false _ r5.0;
-          few-blocks = not-false _ r6.0;
-          positions = not-false _ r7.0;
+          name = not-false _ r2.0;
+          of-ceiling = not-false _ r3.0;
+          numeral = not-false _ r4.0;
+          lasts = not-false _ r5.0;
+          marks = not-false _ r6.0;
+          few-blocks = not-false _ r7.0;
+          task = not-false _ r8.0;
+          ceiling = not-false _ r9.0;
         }
 
     ucb-says : (useful_fits form sets (unwrap_or (read_useful form sets (field 4 l)) no_blocks) ≡ true) × (field 4 l ≡ useful_text form sets (unwrap_or (read_useful form sets (field 4 l)) no_blocks))
     ucb-says = useful-says sets few by-four form (field 4 l) _ w (marks-are no_blocks _ rows.marks) rows.few-blocks
 
     within : (position_named ts (field 1 l) < length ts) × (position_named ts (field 2 l) ≤ position_named ts (field 1 l))
-    within =
-        let p = both (ltb (position_named ts (field 1 l)) (length ts)) (leb (position_named ts (field 2 l)) (position_named ts (field 1 l))) rows.positions in
-        (ltb-true _ _ p.0, leb-true _ _ p.1)
+    within = (ltb-true _ _ rows.task, leb-true _ _ rows.ceiling)
 
     pub access-passes : is_entered form sets (length ts) (access_said form sets ts l) ≡ true
     unfolding is_entered access_said
-    access-passes = rw (rows.lasts, ucb-says.0) rows.positions
+    access-passes = rw (rows.lasts, ucb-says.0, rows.task, rows.ceiling) refl
 
     -- the position that was found for a name has that name
     found : (f : List ℕ) → is_name f ≡ true → position_named ts f < length ts → name_text (get_or ts (position_named ts f) blank).name ≡ f
@@ -157,12 +161,11 @@ module _ (form : Form) (w : ways_of form ≤ 8) (sets : ℕ) (few : sets ≤ 256
     pub access-is : is_access_line l ≡ true → fields l ≡ access_fields form sets ts (access_said form sets ts l)
     unfolding access_said
     access-is kind =
-        let names = both (is_name (field 1 l)) (is_name (field 2 l)) rows.names in
         let letter = (bytes_eq-Decides (field 0 l) (codes "A")).0 kind in
         let lasts : (1 ≤ number (field 3 l)) × (number (field 3 l) ≤ 250000000) = lies 1 250000000 _ rows.lasts in
         rw (
-          found (field 1 l) names.0 within.0,
-          found (field 2 l) names.1 (omega (arith, within)),
+          found (field 1 l) rows.name within.0,
+          found (field 2 l) rows.of-ceiling (omega (arith, within)),
           ← number-text (field 3 l) rows.numeral (omega arith),
           ← ucb-says.1,
         )

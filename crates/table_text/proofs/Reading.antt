@@ -6,9 +6,10 @@ use Rattle.std.proofs.lemmas.List.{map-append}
 use Rattle.std.proofs.lemmas.List.Folds.{list_all-append}
 use Rattle.std.specs.List.{list_all}
 use Rattle.table.specs.Cut.{fields, lines}
-use Rattle.table.specs.declared.refusals.Reason.{Reason}
+use Rattle.table.specs.declared.refusals.Fault.{Fault}
 use Rattle.table.specs.declared.refusals.Reason.TheVariants.{Shape, NoTask}
 use Rattle.table.specs.declared.refusals.Refusal.{Refusal}
+use Rattle.table.specs.Faults.{at_field, no_field}
 use Rattle.table.specs.Rows.{Conditions, unless_fault}
 use Rattle.table.proofs.RowLaws.{fine-any, fine-row}
 use Rattle.cache.specs.declared.useful.Form.{Form}
@@ -34,16 +35,16 @@ module _ {X : Type 0} (line : ℕ) (rows : Conditions) (x : X) (next : X → Res
   pub step-accepted : {result : Table} → then_read (told line (unless_fault rows x)) next ≡ Ok result → (unless_fault rows (tt {0}) ≡ Ok (tt {0})) × (next x ≡ Ok result)
   step-accepted {result} e = go (unless_fault rows x) refl e
     where
-      go : (r : Result X Reason) → unless_fault rows x ≡ r → then_read (told line r) next ≡ Ok result → (unless_fault rows (tt {0}) ≡ Ok (tt {0})) × (next x ≡ Ok result)
+      go : (r : Result X Fault) → unless_fault rows x ≡ r → then_read (told line r) next ≡ Ok result → (unless_fault rows (tt {0}) ≡ Ok (tt {0})) × (next x ≡ Ok result)
       go (Ok y) q e = let f = fine-any rows x (tt {0}) q in (f.1, rw f.0 at e)
-      go (Err reason) q e = absurd (cc)
+      go (Err fault) q e = absurd (cc)
 
 -- the end too
 pub end-accepted : {result : Table} (table : Table) → ended table ≡ Ok result → (ltb 0 table.count ≡ true) × (table ≡ result)
 unfolding ended unless_fault
 end-accepted {result} table e = go (eqb table.count 0) refl e
   where
-    go : (t : Bool) → eqb table.count 0 ≡ t → told 1 (cond t (Err NoTask) (Ok table)) ≡ Ok result → (ltb 0 table.count ≡ true) × (table ≡ result)
+    go : (t : Bool) → eqb table.count 0 ≡ t → told 1 (cond t (Err (no_field NoTask)) (Ok table)) ≡ Ok result → (ltb 0 table.count ≡ true) × (table ≡ result)
     go true q e = absurd (cc)
     go false q e = let some = eqb-false table.count 0 q in (lt-ltb 0 table.count (omega arith), cc)
 
@@ -176,7 +177,7 @@ module _ (h : Head) (ts : List Task) (accesses : List Access) (l : List ℕ) (p 
   with-any e free = go (is_task_line l) (is_access_line l) refl refl e free
     where
       go : (t a : Bool) → is_task_line l ≡ t → is_access_line l ≡ a
-          → unless_fault (cond t (task_line_rows (table_of h ts accesses) l) (cond a (access_line_rows (table_of h ts accesses) l) ((true, Shape) ∷ []))) (tt {0}) ≡ Ok (tt {0})
+          → unless_fault (cond t (task_line_rows (table_of h ts accesses) l) (cond a (access_line_rows (table_of h ts accesses) l) ((true, at_field 0 Shape) ∷ []))) (tt {0}) ≡ Ok (tt {0})
           → (t && has_blocking l) ≡ false
           → With h ts accesses l (cond t (with_task (table_of h ts accesses) (task_said h.form h.sets l)) (with_access (table_of h ts accesses) (access_said h.form h.sets (tasks_of (table_of h ts accesses)) l)))
       go true a kind _ e free = with-task e kind free

@@ -11,6 +11,7 @@ use Rattle.std.specs.List.{list_all, list_any, join_with_byte}
 use Rattle.table.specs.Cut.{fields, lines}
 use Rattle.table.specs.declared.refusals.Refusal.{Refusal}
 use Rattle.table.specs.declared.refusals.Reason.TheVariants.{NoTask}
+use Rattle.table.specs.Faults.{no_field}
 use Rattle.table.specs.Rows.{Conditions, unless_fault}
 use Rattle.table.proofs.RowLaws.{fine-any}
 use Rattle.cache.specs.declared.useful.Form.{Form}
@@ -92,7 +93,7 @@ ended-fine table e = go (eqb table.count 0) refl
     some : 0 < table.count
     some = ltb-true 0 table.count e
 
-    go : (t : Bool) → eqb table.count 0 ≡ t → told 1 (cond t (Err NoTask) (Ok table)) ≡ Ok table
+    go : (t : Bool) → eqb table.count 0 ≡ t → told 1 (cond t (Err (no_field NoTask)) (Ok table)) ≡ Ok table
     go true q = let none = eqb-true table.count 0 q in absurd (omega (arith, none, some))
     go false q = refl
 

@@ -1,6 +1,6 @@
 -- Line 1 and the line of a task: a line that says what is tested here is not refused and says the same again, and a line that is not refused is what is written of
 -- what it says, which passes the tests.
-use Rattle.std.proofs.Common.{◌≡◌, ℕ, ◌%◌, ◌≤◌, ◌<◌, Bool, true, false, not, ◌&&◌, ◌||◌, ◌⊎◌, inl, inr, List, [], ◌∷◌, length, get_or, refl, ap, ◌∙◌, arith, Option, Some, None, Ok, eqb-true, eqb, ltb-false, codes, ◌==◌}
+use Rattle.std.proofs.Common.{◌≡◌, ℕ, ◌%◌, ◌≤◌, ◌<◌, Bool, true, false, not, ◌&&◌, ◌||◌, ◌⊎◌, inl, inr, List, [], ◌∷◌, length, get_or, refl, ap, ◌∙◌, arith, Option, Some, None, Ok, eqb-true, eqb, leb, ltb-false, codes, ◌==◌}
 use Rattle.std.proofs.lemmas.Bool.{false≢true, not-false, not-true}
 use Rattle.std.proofs.lemmas.Slice.Eq.{bytes_eq-Decides}
 use Rattle.std.specs.Prelude.{is_some, unwrap_or, option_map, slice_get}
@@ -18,7 +18,7 @@ use Rattle.table.specs.declared.tasks.Task.{Task}
 use Rattle.table.specs.declared.tasks.head.Head.{Head}
 use Rattle.table.specs.Tasks.{name_text, pack_name, no_sets, no_blocks}
 use Rattle.table.specs.Names.{is_filled, knows}
-use Rattle.table.specs.HeadLine.{is_head, ways_field, read_form, head_in_range, head_rows, head_said}
+use Rattle.table.specs.HeadLine.{is_head, ways_field, read_form, are_sets_in_range, head_in_range, head_rows, head_said}
 use Rattle.table.specs.TaskLine.{times_in_range, times_in_order, task_rows, task_said, has_blocking}
 use Rattle.table.specs.Reading.{is_blocked, is_task_line}
 use Rattle.table.proofs.Names.{name-kept}
@@ -133,16 +133,20 @@ module _ (h : Head) (e : head_in_range h ≡ true) (l : List ℕ) (f : fields l 
   head-says = let s = head-small h e in rw (f, number_read h.sets s.0, number_read h.brt.0 s.1, ways-read h.form (codes "K") (spelled h.sets) (spelled h.brt.0) s.4)
 
   pub head-fine : unless_fault (head_rows l) (tt {0}) ≡ Ok (tt {0})
-  unfolding unless_fault
+  unfolding unless_fault head_in_range
   head-fine =
       let s = head-small h e in
+      let ways = both (are_sets_in_range h.sets && is_within 0 100000 h.brt.0) (is_within 1 8 (ways_of h.form)) e in
+      let brt = both (are_sets_in_range h.sets) (is_within 0 100000 h.brt.0) ways.0 in
       rw (
         shape-of h.form l _ _ f,
         f,
         number_read h.sets s.0,
         number_read h.brt.0 s.1,
         ways-read h.form (codes "K") (spelled h.sets) (spelled h.brt.0) s.4,
-        e,
+        brt.0,
+        brt.1,
+        ways.1,
       )
 
 -- a fourth field, if there is one
@@ -186,17 +190,40 @@ head-shape l e = go (has_shape (codes "K") 3 l) refl e
 
 -- a line that is not refused
 module _ (l : List ℕ) (e : unless_fault (head_rows l) (tt {0}) ≡ Ok (tt {0})) where
+  record HeadRows : Type 0 where
+    shape : is_head l ≡ true
+    sets : is_number (field 1 l) ≡ true
+    brt : is_number (field 2 l) ≡ true
+    form : is_some (read_form (ways_field l)) ≡ true
+    in-range : head_in_range (head_said l) ≡ true
+
+  head-holds : HeadRows
+  unfolding head_in_range
+  head-holds =
+      let r1 = fine-row _ _ _ _ _ e in
+      let r2 = fine-row _ _ _ _ _ r1.1 in
+      let r3 = fine-row _ _ _ _ _ r2.1 in
+      let r4 = fine-row _ _ _ _ _ r3.1 in
+      let r5 = fine-row _ _ _ _ _ r4.1 in
+      let r6 = fine-row _ _ _ _ _ r5.1 in
+      let r7 = fine-row _ _ _ _ _ r6.1 in
+      let r8 = fine-row _ _ _ _ _ r7.1 in
+      record {
+        shape = not-false _ r2.0;
+        sets = not-false _ r3.0;
+        brt = not-false _ r4.0;
+        form = not-false _ r5.0;
+        in-range = rw (not-false _ r6.0, not-false _ r7.0, not-false _ r8.0) refl;
+      }
+
   pub head-passes : head_in_range (head_said l) ≡ true
-  head-passes = not-false _ (fine-row _ _ _ _ _ (fine-row _ _ _ _ _ (fine-row _ _ _ _ _ e).1).1).0
+  head-passes = head-holds.in-range
 
   pub head-is : fields l ≡ head_fields (head_said l).sets (head_said l).brt.0 (head_said l).form
   head-is =
-      let r1 = fine-row _ _ _ _ _ e in
-      let shape = head-shape l (not-false _ r1.0) in
-      let said = both (is_number (field 1 l) && is_number (field 2 l)) (is_some (read_form (ways_field l))) (not-false _ (fine-row _ _ _ _ _ r1.1).0) in
-      let numbers = both (is_number (field 1 l)) (is_number (field 2 l)) said.0 in
+      let shape = head-shape l head-holds.shape in
       let s = head-small (head_said l) head-passes in
-      rw (← number-text (field 1 l) numbers.0 s.0, ← number-text (field 2 l) numbers.1 s.1, ← form-is (ways_field l) said.1 s.4)
+      rw (← number-text (field 1 l) head-holds.sets s.0, ← number-text (field 2 l) head-holds.brt s.1, ← form-is (ways_field l) head-holds.form s.4)
       (three-or-four (fields l) shape.1 ∙ ap (λ (f : List ℕ). f ∷ field 1 l ∷ field 2 l ∷ listed (ways_field l)) shape.0)
 
 -- ---- the line of a task
@@ -218,6 +245,20 @@ next-holds form sets above t e =
     let p1 = both (is_filled t.name) _ p2.0 in
     let p0 = both (times_in_range t) (times_in_order t) p1.1 in
     record { filled = p1.0; in-range = p0.0; in_order = p0.1; ucb = p2.1; ecb = p3.1; new-name = not-true _ p4.1 }
+
+-- the tests on its times, one by one
+time-parts : (t : Task) → times_in_range t ≡ true
+    → (is_within 1 250000000 t.work.0 ≡ true) × (is_within 1 250000000 t.period.0 ≡ true) × (is_within 1 250000000 t.deadline.0 ≡ true) × (is_within 0 250000000 t.jitter.0 ≡ true)
+unfolding times_in_range
+time-parts t e =
+    let p2 = both _ (is_within 0 250000000 t.jitter.0) e in
+    let p1 = both _ (is_within 1 250000000 t.deadline.0) p2.0 in
+    let p0 = both (is_within 1 250000000 t.work.0) (is_within 1 250000000 t.period.0) p1.0 in
+    (p0.0, p0.1, p1.1, p2.1)
+
+order-parts : (t : Task) → times_in_order t ≡ true → (leb t.jitter.0 t.deadline.0 ≡ true) × (leb t.deadline.0 t.period.0 ≡ true)
+unfolding times_in_order
+order-parts t e = both (leb t.jitter.0 t.deadline.0) (leb t.deadline.0 t.period.0) e
 
 pub task-plain : (form : Form) (sets : ℕ) (t : Task) → is_name (name_text t.name) ≡ true → AllPlain (task_fields form sets t)
 task-plain form sets t h =
@@ -254,8 +295,9 @@ module _ (form : Form) (w : ways_of form ≤ 8) (sets : ℕ) (few : sets ≤ 256
     unfolding task_rows unless_fault
     task-fine =
         let n = small in
+        let r = time-parts t h.in-range in
+        let o = order-parts t h.in_order in
         rw (
-          task-says,
           f,
           (filled-name t.name h.filled).0,
           (filled-name t.name h.filled).1,
@@ -267,8 +309,12 @@ module _ (form : Form) (w : ways_of form ≤ 8) (sets : ℕ) (few : sets ≤ 256
           useful-read sets few by-four form t.ucb w h.ucb,
           useful-within sets few by-four form t.ucb,
           marks-read sets few by-four t.ecb h.ecb,
-          h.in-range,
-          h.in_order,
+          r.0,
+          r.1,
+          r.2,
+          r.3,
+          o.0,
+          o.1,
           h.new-name,
         )
 
@@ -277,15 +323,20 @@ module _ (form : Form) (w : ways_of form ≤ 8) (sets : ℕ) (few : sets ≤ 256
     record Rows : Type 0 where
       nine : (field_count l == 9) ≡ true
       name : is_name (field 1 l) ≡ true
-      numbers : (is_number (field 2 l) && is_number (field 3 l) && is_number (field 4 l) && is_number (field 5 l) && is_number (field 6 l)) ≡ true
+      work : is_number (field 2 l) ≡ true
+      period : is_number (field 3 l) ≡ true
+      deadline : is_number (field 4 l) ≡ true
+      jitter : is_number (field 5 l) ≡ true
+      blocking : is_number (field 6 l) ≡ true
       in-range : times_in_range (task_said form sets l) ≡ true
-      marks : (is_some (read_useful form sets (field 7 l)) && is_some (read_set sets (field 8 l))) ≡ true
+      ucb : is_some (read_useful form sets (field 7 l)) ≡ true
+      ecb : is_some (read_set sets (field 8 l)) ≡ true
       within : within_ways form (field 7 l) ≡ true
       in_order : times_in_order (task_said form sets l) ≡ true
       new-name : knows (pack_name (field 1 l)) above ≡ false
 
     rows : Rows
-    unfolding task_rows
+    unfolding task_rows task_said times_in_range times_in_order
     rows =
         let r1 = fine-row _ _ _ _ _ e in
         let r2 = fine-row _ _ _ _ _ r1.1 in
@@ -295,21 +346,34 @@ module _ (form : Form) (w : ways_of form ≤ 8) (sets : ℕ) (few : sets ≤ 256
         let r6 = fine-row _ _ _ _ _ r5.1 in
         let r7 = fine-row _ _ _ _ _ r6.1 in
         let r8 = fine-row _ _ _ _ _ r7.1 in
+        let r9 = fine-row _ _ _ _ _ r8.1 in
+        let r10 = fine-row _ _ _ _ _ r9.1 in
+        let r11 = fine-row _ _ _ _ _ r10.1 in
+        let r12 = fine-row _ _ _ _ _ r11.1 in
+        let r13 = fine-row _ _ _ _ _ r12.1 in
+        let r14 = fine-row _ _ _ _ _ r13.1 in
+        let r15 = fine-row _ _ _ _ _ r14.1 in
+        let r16 = fine-row _ _ _ _ _ r15.1 in
+        let r17 = fine-row _ _ _ _ _ r16.1 in
+        let r18 = fine-row _ _ _ _ _ r17.1 in
         record {
           nine = not-false _ r1.0;
           name = not-false _ r2.0;
-          numbers = not-false _ r3.0;
-          in-range = (both _ (is_within 0 250000000 (number (field 6 l))) (not-false _ r4.0)).0;
-          marks = not-false _ r5.0;
-          within = not-false _ r6.0;
-          in_order = not-false _ r7.0;
-          new-name = r8.0;
+          work = not-false _ r3.0;
+          period = not-false _ r4.0;
+          deadline = not-false _ r5.0;
+          jitter = not-false _ r6.0;
+          blocking = not-false _ r7.0;
+          in-range = rw (not-false _ r8.0, not-false _ r9.0, not-false _ r10.0, not-false _ r11.0) refl;
+          ucb = not-false _ r13.0;
+          ecb = not-false _ r14.0;
+          within = not-false _ r15.0;
+          in_order = rw (not-false _ r16.0, not-false _ r17.0) refl;
+          new-name = r18.0;
         }
 
     sets-say : (read_useful form sets (field 7 l) ≡ Some (unwrap_or (read_useful form sets (field 7 l)) no_blocks)) × (read_set sets (field 8 l) ≡ Some (unwrap_or (read_set sets (field 8 l)) no_sets))
-    sets-say =
-        let p = both (is_some (read_useful form sets (field 7 l))) (is_some (read_set sets (field 8 l))) rows.marks in
-        (marks-are no_blocks _ p.0, marks-are no_sets _ p.1)
+    sets-say = (marks-are no_blocks _ rows.ucb, marks-are no_sets _ rows.ecb)
 
     ucb-says : (useful_fits form sets (unwrap_or (read_useful form sets (field 7 l)) no_blocks) ≡ true) × (field 7 l ≡ useful_text form sets (unwrap_or (read_useful form sets (field 7 l)) no_blocks))
     ucb-says = useful-says sets few by-four form (field 7 l) _ w sets-say.0 rows.within
@@ -330,21 +394,17 @@ module _ (form : Form) (w : ways_of form ≤ 8) (sets : ℕ) (few : sets ≤ 256
     pub task-is : is_task_line l ≡ true → has_blocking l ≡ false → fields l ≡ task_fields form sets (task_said form sets l)
     unfolding task_said
     task-is kind free =
-        let p6 = both _ (is_number (field 6 l)) rows.numbers in
-        let p5 = both _ (is_number (field 5 l)) p6.0 in
-        let p4 = both _ (is_number (field 4 l)) p5.0 in
-        let p3 = both (is_number (field 2 l)) (is_number (field 3 l)) p4.0 in
         let r = ranges (task_said form sets l) rows.in-range in
         let o = order (task_said form sets l) rows.in_order in
         let zero : number (field 6 l) ≡ 0 = let low = ltb-false 0 _ free in omega arith in
         let letter = (bytes_eq-Decides (field 0 l) (codes "T")).0 kind in
         rw (
           name-kept (field 1 l) rows.name,
-          ← number-text (field 2 l) p3.0 (omega arith),
-          ← number-text (field 3 l) p3.1 (omega arith),
-          ← number-text (field 4 l) p4.1 (omega arith),
-          ← number-text (field 5 l) p5.1 (omega arith),
-          ← (number-text (field 6 l) p6.1 (omega arith) ∙ ap spelled zero),
+          ← number-text (field 2 l) rows.work (omega arith),
+          ← number-text (field 3 l) rows.period (omega arith),
+          ← number-text (field 4 l) rows.deadline (omega arith),
+          ← number-text (field 5 l) rows.jitter (omega arith),
+          ← (number-text (field 6 l) rows.blocking (omega arith) ∙ ap spelled zero),
           ← ucb-says.1,
           ← read-text sets few by-four (field 8 l) _ sets-say.1,
         )

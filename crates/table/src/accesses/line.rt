@@ -5,7 +5,7 @@ ghost use Rattle.table.specs.Rows.{unless_fault};
 ghost use Rattle.table.specs.AccessLine.{AreAccessFields, access_rows, access_said};
 
 use crate::accesses::Access;
-use crate::refusals::Reason;
+use crate::refusals::{Fault, Reason};
 use crate::tasks::{Name, Task};
 use crate::text::Fields;
 use crate::{fields, tasks};
@@ -39,25 +39,30 @@ fn cut(line: &[u8]) -> Option<AccessFields<'_>>
 impl Access {
     // The access that a line says in a table of this form with so many cache sets, below these tasks, or its first refusal.
     #[tactic(auto, using(std::proofs::lemmas::Bool::Decides::nat_tests), unfolding(crate::specs::AccessLine::access_rows, crate::specs::AccessLine::access_said, crate::specs::Rows::unless_fault))]
-    pub fn read(line: &[u8], form: Form, sets: u64, tasks: &[Task]) -> Result<Access, Reason>
+    pub fn read(line: &[u8], form: Form, sets: u64, tasks: &[Task]) -> Result<Access, Fault>
         ensures { result ≡ unless_fault (access_rows form sets tasks.now line.now) (access_said form sets tasks.now line.now) }
     {
-        let fields = cut(line).ok_or(Reason::Shape)?;
-        if !(fields::is_name(fields.task) && fields::is_name(fields.ceiling)) {
-            return Err(Reason::Name);
+        let fields = cut(line).ok_or(Reason::Shape.at(5))?;
+        if !fields::is_name(fields.task) {
+            return Err(Reason::Name.at(1));
         }
-        let lasts = fields::read_number(fields.lasts).ok_or(Reason::Number)?;
+        if !fields::is_name(fields.ceiling) {
+            return Err(Reason::Name.at(2));
+        }
+        let lasts = fields::read_number(fields.lasts).ok_or(Reason::Number.at(3))?;
         if !fields::is_within(1, Ticks::LONGEST, lasts) {
-            return Err(Reason::Range);
+            return Err(Reason::Range.at(3));
         }
-        let ucb = Useful::from_field(fields.ucb, sets, form).ok_or(Reason::Marks)?;
+        let ucb = Useful::from_field(fields.ucb, sets, form).ok_or(Reason::Marks.at(4))?;
         if !useful::is_within(fields.ucb, form) {
-            return Err(Reason::TooManyBlocks);
+            return Err(Reason::TooManyBlocks.at(4));
         }
-        let task = tasks::position_of(Name::of(fields.task), tasks).ok_or(Reason::OtherTask)?;
-        let ceiling = tasks::position_of(Name::of(fields.ceiling), tasks).ok_or(Reason::OtherTask)?;
+        let task = tasks::position_of(Name::of(fields.task), tasks).ok_or(Reason::OtherTask.at(1))?;
+        let ceiling = tasks::position_of(Name::of(fields.ceiling), tasks).ok_or(
+            Reason::OtherTask.at(2),
+        )?;
         if task < ceiling {
-            return Err(Reason::OtherTask);
+            return Err(Reason::OtherTask.at(2));
         }
         Ok(Access {
             task,

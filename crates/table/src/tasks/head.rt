@@ -1,11 +1,11 @@
 // Line 1 of a table.
 ghost use Rattle.std.specs.Prelude.{◌≡◌, false, MatchOption, option_map};
 ghost use Rattle.table.specs.Rows.{unless_fault};
-ghost use Rattle.table.specs.HeadLine.{AreHeadFields, is_head, read_form, head_in_range, head_rows, head_said};
+ghost use Rattle.table.specs.HeadLine.{AreHeadFields, is_head, read_form, are_sets_in_range, head_in_range, head_rows, head_said};
 
 use crate::fields;
-use crate::refusals::Reason;
-use crate::text::Fields;
+use crate::refusals::{Fault, Reason};
+use crate::text::{Fields, first_field};
 use cache::sets::CacheSet;
 use cache::units::Ticks;
 use cache::useful::{Form, Useful};
@@ -61,35 +61,49 @@ fn read_form(ways: Option<&[u8]>) -> Option<Form>
     }
 }
 
+// Whether there can be so many cache sets, which come in fours.
+fn are_sets_in_range(sets: u64) -> bool
+    ensures { result ≡ are_sets_in_range sets }
+{
+    fields::is_within(4, CacheSet::MOST_SETS, sets) & (sets % 4 == 0)
+}
+
 impl Head {
     // Whether line 1 can say it.
     #[tactic(auto, unfolding(crate::specs::HeadLine::head_in_range))]
     pub fn in_range(self) -> bool
         ensures { result ≡ head_in_range self }
     {
-        fields::is_within(4, CacheSet::MOST_SETS, self.sets)
-            & (self.sets % 4 == 0)
+        are_sets_in_range(self.sets)
             & fields::is_within(0, Ticks::LONGEST_RELOAD, self.brt.0)
             & fields::is_within(1, Useful::MOST_WAYS, self.form.ways())
     }
 
     // What line 1 says, or its first refusal.
     #[tactic(auto, unfolding(crate::specs::HeadLine::head_said, crate::specs::Rows::unless_fault))]
-    pub fn read(line: &[u8]) -> Result<Head, Reason>
+    pub fn read(line: &[u8]) -> Result<Head, Fault>
         ensures { result ≡ unless_fault (head_rows line.now) (head_said line.now) }
     {
-        let fields = cut(line).ok_or(Reason::Shape)?;
-        let sets = fields::read_number(fields.sets).ok_or(Reason::Number)?;
-        let brt = fields::read_number(fields.brt).ok_or(Reason::Number)?;
-        let form = read_form(fields.ways).ok_or(Reason::Number)?;
-        let head = Head {
+        if first_field(line) != b"K".as_slice() {
+            return Err(Reason::Shape.at(0));
+        }
+        let fields = cut(line).ok_or(Reason::Shape.at(4))?;
+        let sets = fields::read_number(fields.sets).ok_or(Reason::Number.at(1))?;
+        let brt = fields::read_number(fields.brt).ok_or(Reason::Number.at(2))?;
+        let form = read_form(fields.ways).ok_or(Reason::Number.at(3))?;
+        if !are_sets_in_range(sets) {
+            return Err(Reason::Range.at(1));
+        }
+        if !fields::is_within(0, Ticks::LONGEST_RELOAD, brt) {
+            return Err(Reason::Range.at(2));
+        }
+        if !fields::is_within(1, Useful::MOST_WAYS, form.ways()) {
+            return Err(Reason::Range.at(3));
+        }
+        Ok(Head {
             sets,
             brt: Ticks(brt),
             form,
-        };
-        if !head.in_range() {
-            return Err(Reason::Range);
-        }
-        Ok(head)
+        })
     }
 }

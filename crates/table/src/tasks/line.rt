@@ -1,13 +1,15 @@
 // A task line.
 ghost use Rattle.std.specs.Prelude.{◌≡◌, false, not, ◌&&◌, [], ◌∷◌, MatchOption, ◌==◌};
+ghost use Rattle.cache.specs.declared.units.TheConstants.Ticks.{LONGEST};
 ghost use Rattle.table.specs.Cut.{field_count};
 ghost use Rattle.table.specs.Rows.{unless_fault};
-ghost use Rattle.table.specs.Fields.{is_number, number};
-ghost use Rattle.table.specs.declared.refusals.Reason.TheVariants.{Number};
+ghost use Rattle.table.specs.Fields.{is_number, number, is_within};
+ghost use Rattle.table.specs.declared.refusals.Reason.TheVariants.{Number, Range};
+ghost use Rattle.table.specs.Faults.{at_field};
 ghost use Rattle.table.specs.TaskLine.{AreTaskFields, times_in_range, times_in_order, task_rows, task_said, blocking_said};
 
 use crate::fields;
-use crate::refusals::Reason;
+use crate::refusals::{Fault, Reason};
 use crate::tasks::Task;
 use crate::tasks::name::{Name, is_known};
 use crate::text::Fields;
@@ -47,13 +49,24 @@ fn cut(line: &[u8]) -> Option<TaskFields<'_>>
     if fields.is_done() { Some(cut) } else { None }
 }
 
-// What a field says in ticks, if it is a number.
+// What the field at this place says in ticks, if it is a number.
 #[tactic(auto, unfolding(crate::specs::Rows::unless_fault))]
-fn read_ticks(field: &[u8]) -> Result<Ticks, Reason>
-    ensures { result ≡ unless_fault ((not (is_number field.now), Number) ∷ []) (record { 0 = number field.now }) }
+fn read_ticks(field: &[u8], at: usize) -> Result<Ticks, Fault>
+    ensures { result ≡ unless_fault ((not (is_number field.now), at_field at Number) ∷ []) (record { 0 = number field.now }) }
 {
-    let ticks = fields::read_number(field).ok_or(Reason::Number)?;
+    let ticks = fields::read_number(field).ok_or(Reason::Number.at(at))?;
     Ok(Ticks(ticks))
+}
+
+// Refuses a time, that of the field at this place, if it is below the least or longer than any may be.
+#[tactic(auto, unfolding(crate::specs::Rows::unless_fault))]
+fn check_range(ticks: Ticks, least: u64, at: usize) -> Result<(), Fault>
+    ensures { result ≡ unless_fault ((not (is_within least LONGEST ticks.0), at_field at Range) ∷ []) tt }
+{
+    if !fields::is_within(least, Ticks::LONGEST, ticks.0) {
+        return Err(Reason::Range.at(at));
+    }
+    Ok(())
 }
 
 impl Task {
@@ -82,37 +95,42 @@ impl Task {
     }
 
     // The task that a line says in a table of this form with so many cache sets, below the tasks above it, and the line's B; or its first refusal.
-    #[tactic(auto, unfolding(crate::specs::TaskLine::task_rows, crate::specs::TaskLine::task_said, crate::specs::TaskLine::times_in_range, crate::specs::TaskLine::times_in_order, crate::specs::Rows::unless_fault))]
-    pub fn read(line: &[u8], form: Form, sets: u64, above: &[Task]) -> Result<(Task, Ticks), Reason>
+    #[tactic(auto, using(std::proofs::lemmas::Bool::Decides::nat_tests), unfolding(crate::specs::TaskLine::task_rows, crate::specs::TaskLine::task_said, crate::specs::Rows::unless_fault))]
+    pub fn read(line: &[u8], form: Form, sets: u64, above: &[Task]) -> Result<(Task, Ticks), Fault>
         ensures { result ≡ unless_fault (task_rows form sets above.now line.now) (task_said form sets line.now, blocking_said line.now) }
     {
-        let fields = cut(line).ok_or(Reason::Shape)?;
+        let fields = cut(line).ok_or(Reason::Shape.at(9))?;
         if !fields::is_name(fields.name) {
-            return Err(Reason::Name);
+            return Err(Reason::Name.at(1));
         }
         let mut task = Task {
             name: Name::of(fields.name),
-            work: read_ticks(fields.work)?,
-            period: read_ticks(fields.period)?,
-            deadline: read_ticks(fields.deadline)?,
-            jitter: read_ticks(fields.jitter)?,
+            work: read_ticks(fields.work, 2)?,
+            period: read_ticks(fields.period, 3)?,
+            deadline: read_ticks(fields.deadline, 4)?,
+            jitter: read_ticks(fields.jitter, 5)?,
             ucb: Useful::NONE,
             ecb: CacheSet::EMPTY,
         };
-        let blocking = read_ticks(fields.blocking)?;
-        if !(task.times_in_range() & fields::is_within(0, Ticks::LONGEST, blocking.0)) {
-            return Err(Reason::Range);
-        }
-        task.ucb = Useful::from_field(fields.ucb, sets, form).ok_or(Reason::Marks)?;
-        task.ecb = CacheSet::from_field(fields.ecb, sets).ok_or(Reason::Marks)?;
+        let blocking = read_ticks(fields.blocking, 6)?;
+        check_range(task.work, 1, 2)?;
+        check_range(task.period, 1, 3)?;
+        check_range(task.deadline, 1, 4)?;
+        check_range(task.jitter, 0, 5)?;
+        check_range(blocking, 0, 6)?;
+        task.ucb = Useful::from_field(fields.ucb, sets, form).ok_or(Reason::Marks.at(7))?;
+        task.ecb = CacheSet::from_field(fields.ecb, sets).ok_or(Reason::Marks.at(8))?;
         if !useful::is_within(fields.ucb, form) {
-            return Err(Reason::TooManyBlocks);
+            return Err(Reason::TooManyBlocks.at(7));
         }
-        if !task.times_in_order() {
-            return Err(Reason::Order);
+        if task.period.0 < task.deadline.0 {
+            return Err(Reason::Order.at(4));
+        }
+        if task.deadline.0 < task.jitter.0 {
+            return Err(Reason::Order.at(5));
         }
         if is_known(task.name, above) {
-            return Err(Reason::KnownName);
+            return Err(Reason::KnownName.at(1));
         }
         Ok((task, blocking))
     }
