@@ -1,17 +1,16 @@
 -- A run over builds: what is told so far, one build more, and the end.
-use Rattle.std.proofs.Common.{◌≡◌, ℕ, suc, ◌+◌, ◌<◌, ◌≤◌, Bool, true, false, cond, true≢false, List, [], ◌∷◌, ◌++◌, length, length-append, length-take-le, map, take, get_or, take_all, Option, Some, None, IfSome, IsPermutation, Vec, Global, refl, sym, ap, ap₂, subst, ◌∙◌, arith, append_assoc, append-nil}
+use Rattle.std.proofs.Common.{◌≡◌, ℕ, suc, ◌+◌, ◌<◌, ◌≤◌, Bool, true, false, cond, List, [], ◌∷◌, ◌++◌, length, length-append, length-take-le, map, flat_map, take, get_or, take_all, Option, Some, None, IfSome, IsPermutation, Vec, Global, refl, sym, ap, ap₂, subst, ◌∙◌, arith, append_assoc, append-nil}
+use Rattle.std.proofs.lemmas.Grind.{flat_map-append}
 use Rattle.std.proofs.lemmas.List.{map-append, take_more, get_or-map, length-map}
 use Rattle.std.proofs.lemmas.List.Sorted.{IsPermutation-map}
 use Rattle.lists.specs.declared.Fate.{Fate}
-use Rattle.lists.specs.declared.Fate.TheVariants.{Unread, Unwritten, Refused, Judged}
 use Rattle.lists.specs.Lists.{list_line}
 use Rattle.lists.specs.Spelling.{spelled_out}
 use Rattle.lists.specs.Together.{texts_of, together}
 use Rattle.lists.proofs.Lists.{together-permutation}
 use Rattle.builds.specs.declared.Build.{Build}
-use Rattle.builds.specs.Fates.{fate_of}
-use Rattle.builds.specs.Folders.{Held, with_reports, IsTold, report_told, BuildTold, ReportsBuild}
-use Rattle.builds.specs.Runs.{in_part, part_from, part_of, lines_told, reports_told, AllTold, RunTold, AllReported, list_of, WritesReports}
+use Rattle.builds.specs.Folders.{Held, with_reports, fate_told, reports_told, BuildTold, ReportsBuild}
+use Rattle.builds.specs.Runs.{in_part, part_from, part_of, lines_told, RunTold, list_of, WritesReports}
 
 -- ---- a way more
 
@@ -40,20 +39,6 @@ lines-more [] (g ∷ fs) w f e = absurd (omega (arith, e))
 lines-more (v ∷ ws) [] w f e = absurd (omega (arith, e))
 lines-more (v ∷ ws) (g ∷ fs) w f e = ap (λ (l : List (List ℕ)). list_line (spelled_out v) g ∷ l) (lines-more ws fs w f (omega (arith, e)))
 
-module _ (texts : List ℕ → List ℕ) where
-  reports-more : (ws : List (List ℕ)) (fs : List Fate) (w : List ℕ) (f : Fate) → AllTold texts ws fs → reports_told texts (ws ++ w ∷ []) (fs ++ f ∷ []) ≡ reports_told texts ws fs ++ report_told w (texts w) f
-  reports-more [] [] w f t = append-nil (report_told w (texts w) f)
-  reports-more [] (g ∷ fs) w f t = absurd t
-  reports-more (v ∷ ws) [] w f t = absurd t
-  reports-more (v ∷ ws) (g ∷ fs) w f t =
-      ap (λ (l : List (List ℕ × List ℕ)). report_told v (texts v) g ++ l) (reports-more ws fs w f t.1) ∙ sym (append_assoc (report_told v (texts v) g) (reports_told texts ws fs) (report_told w (texts w) f))
-
-  told-more : (ws : List (List ℕ)) (fs : List Fate) (w : List ℕ) (f : Fate) → AllTold texts ws fs → IsTold (texts w) f → AllTold texts (ws ++ w ∷ []) (fs ++ f ∷ [])
-  told-more [] [] w f t i = (i, tt)
-  told-more [] (g ∷ fs) w f t i = absurd t
-  told-more (v ∷ ws) [] w f t i = absurd t
-  told-more (v ∷ ws) (g ∷ fs) w f t i = (t.0, told-more ws fs w f t.1 i)
-
 -- ---- the run so far
 
 pub record SoFar (held : Option Held) (done : List (List ℕ)) (lines : List (List ℕ)) (fates : List Fate) (now : Option Held) : Type 0 where
@@ -66,17 +51,19 @@ none-yet held now e = record { lines-are = refl; long = refl; told = go held e }
   where
     go : (o : Option Held) → now ≡ o → IfSome o (λ h. RunTold h [] [] now)
     go None p = tt
-    go (Some h) p = record { told = tt; put = p ∙ ap (λ (rs : List (List ℕ × List ℕ)). Some (record { texts = h.texts; reports = rs })) (sym (append-nil h.reports)) }
+    go (Some h) p = record { told = refl; put = p ∙ ap (λ (rs : List (List ℕ × List ℕ)). Some (record h { reports = rs })) (sym (append-nil h.reports)) }
 
 run-more : (held now later : Option Held) (done : List (List ℕ)) (fates : List Fate) (w : List ℕ) (f : Fate) → IfSome held (λ h. RunTold h done fates now) → ReportsBuild now w f later
     → IfSome held (λ h. RunTold h (done ++ w ∷ []) (fates ++ f ∷ []) later)
 run-more None now later done fates w f t b = tt
 run-more (Some h) now later done fates w f t b =
-    let before = with_reports h (reports_told h.texts done fates) in
-    let one : BuildTold before w f later = subst (λ (o : Option Held). ReportsBuild o w f later) t.put b in record {
-      told = told-more h.texts done fates w f t.told one.told;
-      put = one.put ∙ ap (λ (rs : List (List ℕ × List ℕ)). Some (record { texts = h.texts; reports = rs }))
-          (append_assoc h.reports (reports_told h.texts done fates) (report_told w (h.texts w) f) ∙ ap (λ (rs : List (List ℕ × List ℕ)). h.reports ++ rs) (sym (reports-more h.texts done fates w f t.told)));
+    let before = with_reports h (flat_map (reports_told h) done) in
+    let one : BuildTold before w f later = subst (λ (o : Option Held). ReportsBuild o w f later) t.put b in
+    let reports : flat_map (reports_told h) (done ++ w ∷ []) ≡ flat_map (reports_told h) done ++ reports_told h w =
+    flat_map-append (reports_told h) done (w ∷ []) ∙ ap (λ (rs : List (List ℕ × List ℕ)). flat_map (reports_told h) done ++ rs) (append-nil (reports_told h w)) in record {
+      told = ap₂ (λ (a : List Fate) (g : Fate). a ++ g ∷ []) t.told one.told ∙ sym (map-append (fate_told h) done (w ∷ []));
+      put = one.put ∙ ap (λ (rs : List (List ℕ × List ℕ)). Some (record h { reports = rs }))
+          (append_assoc h.reports (flat_map (reports_told h) done) (reports_told h w) ∙ ap (λ (rs : List (List ℕ × List ℕ)). h.reports ++ rs) (sym reports));
     }
 
 one-more : (held now later : Option Held) (done lines : List (List ℕ)) (fates : List Fate) (w : List ℕ) (f : Fate) → SoFar held done lines fates now → ReportsBuild now w f later
@@ -133,23 +120,18 @@ all-done held now number of builds i lines fates h d =
     let long : length (ways_of builds) ≡ length builds = length-map builds (λ (c : Build). c.way.items) in
     rw (take_all i (ways_of builds) (omega arith)) at d
 
--- ---- where nothing failed
+-- ---- the list of what is told
 
-told-fates : (texts : List ℕ → List ℕ) (ws : List (List ℕ)) (fs : List Fate) → AllTold texts ws fs → AllReported fs → lines_told ws fs ≡ map (λ w. list_line (spelled_out w) (fate_of (texts w))) ws
-told-fates texts [] [] t r = refl
-told-fates texts [] (f ∷ fs) t r = absurd t
-told-fates texts (w ∷ ws) [] t r = absurd t
-told-fates texts (w ∷ ws) (Unread ∷ fs) t r = absurd (true≢false (sym r))
-told-fates texts (w ∷ ws) (Unwritten ∷ fs) t r = absurd (true≢false (sym r))
-told-fates texts (w ∷ ws) (Refused q ∷ fs) t r = ap₂ (λ (f : Fate) (ls : List (List ℕ)). list_line (spelled_out w) f ∷ ls) t.0 (told-fates texts ws fs t.1 r)
-told-fates texts (w ∷ ws) (Judged v ∷ fs) t r = ap₂ (λ (f : Fate) (ls : List (List ℕ)). list_line (spelled_out w) f ∷ ls) t.0 (told-fates texts ws fs t.1 r)
+lines-of : (fate : List ℕ → Fate) (ws : List (List ℕ)) → lines_told ws (map fate ws) ≡ map (λ w. list_line (spelled_out w) (fate w)) ws
+lines-of fate [] = refl
+lines-of fate (w ∷ ws) = ap (λ (ls : List (List ℕ)). list_line (spelled_out w) (fate w) ∷ ls) (lines-of fate ws)
 
 listed : (held now : Option Held) (ways lines : List (List ℕ)) (fates : List Fate) (list : List ℕ) → list ≡ together lines → SoFar held ways lines fates now
-    → IfSome held (λ h. AllReported fates → (shuffled : List (List ℕ)) → IsPermutation ways shuffled → list ≡ list_of h.texts shuffled)
+    → IfSome held (λ h. (shuffled : List (List ℕ)) → IsPermutation ways shuffled → list ≡ list_of (fate_told h) shuffled)
 listed None now ways lines fates list e s = tt
-listed (Some h) now ways lines fates list e s = λ all shuffled p.
-    e ∙ ap together (s.lines-are ∙ told-fates h.texts ways fates s.told.told all)
-    ∙ together-permutation _ _ (IsPermutation-map (λ (w : List ℕ). list_line (spelled_out w) (fate_of (h.texts w))) ways shuffled p)
+listed (Some h) now ways lines fates list e s = λ shuffled p.
+    e ∙ ap together (s.lines-are ∙ ap (lines_told ways) s.told.told ∙ lines-of (fate_told h) ways)
+    ∙ together-permutation _ _ (IsPermutation-map (λ (w : List ℕ). list_line (spelled_out w) (fate_told h w)) ways shuffled p)
 
 pub at-end : (held now : Option Held) (number of : ℕ) (builds : List Build) (i : ℕ) (lines : List (Vec ℕ Global)) (fates : List Fate) (lent : List (Vec ℕ Global)) (list : List ℕ) → length builds ≤ i
     → Done held number of builds i lines fates now → lent ≡ lines → list ≡ together (texts_of lent) → WritesReports held (part_of number of (ways_of builds)) list fates now

@@ -8,7 +8,6 @@ use Rattle.lists.specs.Lists.{list_line}
 use Rattle.lists.specs.Spelling.{spelled_out}
 use Rattle.lists.specs.Together.{together}
 use Rattle.lists.proofs.Lists.{together-parts}
-use Rattle.builds.specs.Fates.{fate_of}
 use Rattle.builds.specs.Runs.{in_part, part_from, part_of, numbers_to, SharedOut}
 
 abbrev one : Bool → ℕ
@@ -131,8 +130,8 @@ shared-out zero ways p = absurd (omega arith)
 shared-out (suc n) ways p =
     let all = shared n 1 ways in record {
       each = all;
-      list = λ texts.
-          let f : List ℕ → List ℕ = λ w. list_line (spelled_out w) (fate_of (texts w)) in
+      list = λ fate.
+          let f : List ℕ → List ℕ = λ w. list_line (spelled_out w) (fate w) in
           let g : ℕ → List (List ℕ) = λ k. part_of k (suc n) ways in
           let lines : IsPermutation (map f ways) (flat_map (λ p. p) (map (λ k. map f (g k)) (numbers_to (suc n)))) =
           subst (IsPermutation (map f ways)) (sym (parts-lines f g (numbers_to (suc n)))) (IsPermutation-map f ways _ all) in

@@ -8,7 +8,7 @@ ghost use Rattle.crpd.specs.Operations.{report_in, printed};
 ghost use Rattle.lists.specs.Spelling.{spelled_out};
 ghost use Rattle.lists.specs.Together.{ascending};
 ghost use Rattle.builds.specs.Fates.{judged, fate_of};
-ghost use Rattle.builds.specs.Folders.{Held, HasText, Gains, ReportsBuild};
+ghost use Rattle.builds.specs.Folders.{Held, HasText, HasNoText, Gains, TakesNone, ReportsBuild};
 ghost use Rattle.builds.specs.Runs.{in_part, part_of, WritesReports, SharedOut};
 
 use analysis::rows;
@@ -132,8 +132,8 @@ pub struct Unread;
 #[derive(Drop)]
 pub struct Unwritten;
 
-// Where builds lie. `held` has what lies there, where the type says it: the text of each build, by the way to it, and the reports that were put there, one after
-// the other, each with the way to its build.
+// Where builds lie. `held` has what lies there, where the type says it: the text of each build, by the way to it, if it can be read; of which builds a report can be
+// put there; and the reports that were put there, one after the other, each with the way to its build.
 pub trait Folder {
     ghost held: { Self → Option Held };
 
@@ -141,11 +141,13 @@ pub trait Folder {
     fn read(&mut self, build: &Build, buf: &mut [u8]) -> Result<usize, Unread>
         ensures within { IfOk result (λ len. len ≤ length buf.new) }
         ensures text { IfOk result (λ len. HasText (held self.old) build.now.way.items len buf.new) }
+        ensures no_text { OnErr result (HasNoText (held self.old) build.now.way.items) }
         ensures same { held self.new ≡ held self.old };
 
     // Puts the report of a build there, whole or not at all.
     fn put(&mut self, build: &Build, report: &[u8]) -> Result<(), Unwritten>
         ensures put { OnOk result (Gains (held self.old) (held self.new) build.now.way.items report.now) }
+        ensures not_taken { OnErr result (TakesNone (held self.old) build.now.way.items) }
         ensures not_put { OnErr result (held self.new ≡ held self.old) };
 
     // Hears of what became of a build; with as much of its text as was read.

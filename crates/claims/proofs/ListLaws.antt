@@ -1,8 +1,10 @@
 -- The reading of a list, one task after the other.
-use Rattle.std.proofs.Common.{ℕ, ◌+◌, ◌≤◌, ◌<◌, ◌≡◌, refl, ap, ◌∙◌, arith, Bool, true, false, not, cond, List, [], ◌∷◌, ◌++◌, length, take, drop, set, take-suc-set, append_assoc, append-nil, add-one, Result, Ok, Err, ◌==◌}
+use Rattle.std.proofs.Common.{ℕ, ◌+◌, ◌≤◌, ◌<◌, ◌≡◌, refl, ap, ◌∙◌, arith, Bool, true, false, not, cond, List, [], ◌∷◌, ◌++◌, length, take, drop, set, take-suc-set, append_assoc, append-nil, add-one, Result, Ok, Err, ◌==◌, replicate, get_or-set_other, inl, inr}
 use Rattle.std.specs.Str.{bytes_eq}
-use Rattle.std.proofs.lemmas.List.{drop_more, drop_all}
+use Rattle.std.proofs.lemmas.List.{drop_more, drop_all, get_or-replicate, get_or_past}
+use Rattle.std.proofs.lemmas.Bool.{cases_lt}
 use Rattle.search.specs.declared.demand.Response.{Response}
+use Rattle.search.specs.declared.demand.Response.TheVariants.{Unschedulable}
 use Rattle.table.specs.declared.refusals.Refusal.{Refusal}
 use Rattle.table.specs.declared.refusals.Fault.{Fault}
 use Rattle.table.specs.declared.refusals.Reason.TheVariants.{ListName}
@@ -16,7 +18,7 @@ use Rattle.table.proofs.ToldLines.{ToldBy}
 use Rattle.table.specs.declared.Table.{Table}
 use Rattle.table.specs.Tables.{tasks_of, at}
 use Rattle.table.specs.Reading.{told, then_read}
-use Rattle.claims.specs.Lists.{name_listed, claim_listed, list_line_rows, list_line_checked, claim_rows, first_claim, end_of_list_rows, claims_from, claims_in}
+use Rattle.claims.specs.Lists.{name_listed, claim_listed, list_line_rows, list_line_checked, claim_rows, first_claim, end_of_list_rows, claims_from, claims_in, NoneFrom}
 
 abbrev none : List Response
 none = []
@@ -97,6 +99,18 @@ claim-refused line task list some h =
     rw some
     (ap (told line)
     (line-refused list ((not (bytes_eq (name_listed (up_to 10 list)) (name_text task.name)), at_field 1 ListName) ∷ []) (claim_listed (up_to 10 list), after 10 list) h))
+
+-- ---- the places without a task
+
+pub none-claimed : NoneFrom 0 (replicate 32 Unschedulable)
+none-claimed k l =
+    elim (cases_lt k 32) [
+      | inl here ↦ get_or-replicate 32 k Unschedulable Unschedulable here
+      | inr past ↦ get_or_past (replicate 32 Unschedulable) k Unschedulable past
+    ]
+
+pub none-behind : (claims : List Response) (i : ℕ) (claim : Response) → NoneFrom i claims → NoneFrom (i + 1) (set claims i claim)
+none-behind claims i claim none k l = get_or-set_other claims i k claim Unschedulable (omega arith) ∙ none k (omega arith)
 
 -- ---- the line that is told
 

@@ -1,5 +1,5 @@
 -- A partner's list: below one another, in the order of a table's tasks, a line with the response that is claimed of each. What it claims, or its first refusal.
-use Rattle.std.specs.Prelude.{ℕ, ◌+◌, ◌≡◌, Bool, true, not, List, [], ◌∷◌, length, Option, Some, option_map, is_some, unwrap_or, Result, Ok, if◌then◌else◌, nat_lt, ◌==◌, ⊤, codes}
+use Rattle.std.specs.Prelude.{ℕ, ◌+◌, ◌≤◌, ◌≡◌, Bool, true, not, List, [], ◌∷◌, length, Option, Some, option_map, is_some, unwrap_or, Result, Ok, if◌then◌else◌, nat_lt, ◌==◌, slice_index_or, ⊤, codes}
 use Rattle.std.specs.Str.{bytes_eq}
 use Rattle.search.specs.declared.demand.Response.{Response}
 use Rattle.search.specs.declared.demand.Response.TheVariants.{Within, Unschedulable}
@@ -86,3 +86,7 @@ claims_from line (task ∷ tasks) list = do
 -- those of a whole list, of the tasks of a table
 unfoldable pub claims_in : Table → List ℕ → Result (List Response) Refusal
 claims_in table list = claims_from 1 (tasks_of table) list
+
+-- no response is claimed in the places from one on
+abbrev pub NoneFrom : ℕ → List Response → Type 0
+NoneFrom i claims = (k : ℕ) → i ≤ k → slice_index_or claims k Unschedulable ≡ Unschedulable

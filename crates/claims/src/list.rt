@@ -1,12 +1,12 @@
 // The lines of a list: `R`, the name of a task, and what is claimed of it, one for each task of a table in its order. specs/Lists.antt says what a list claims, and
 // which refusal it is given.
 
-ghost use Rattle.std.specs.Prelude.{◌≡◌, ◌+◌, false, MatchOption, MatchResult, Ok, Err, take, codes};
+ghost use Rattle.std.specs.Prelude.{◌≡◌, ◌+◌, false, MatchOption, MatchResult, IfOk, Ok, Err, take, codes};
 ghost use Rattle.table.specs.Fields.{has_shape};
 ghost use Rattle.table.specs.Rows.{unless_fault};
 ghost use Rattle.table.specs.Tables.{at};
 ghost use Rattle.table.specs.Reading.{told, then_read};
-ghost use Rattle.claims.specs.Lists.{read_claim, AreListFields, list_line_checked, BeginsWithLine, first_claim, end_of_list_rows, claims_in};
+ghost use Rattle.claims.specs.Lists.{read_claim, AreListFields, list_line_checked, BeginsWithLine, first_claim, end_of_list_rows, claims_in, NoneFrom};
 
 use cache::units::Ticks;
 use search::demand::Response;
@@ -109,9 +109,11 @@ fn check_end(list: &[u8], line: u64) -> Result<(), Refusal>
     }
 }
 
-// What a list claims of each task of a table, at the task's position, or its first refusal. No more of it is read than the table has tasks, and one line.
+// What a list claims of each task of a table, at the task's position, and no response in the places without a task; or its first refusal. No more of it is read
+// than the table has tasks, and one line.
 pub fn read(accepted: Accepted, list: &[u8]) -> Result<[Response; Table::MOST_TASKS], Refusal>
-    ensures { then_read result (λ claims. Ok (take accepted.entry.table.now.count claims)) ≡ claims_in accepted.entry.table.now list.now }
+    ensures claimed { then_read result (λ claims. Ok (take accepted.entry.table.now.count claims)) ≡ claims_in accepted.entry.table.now list.now }
+    ensures others { IfOk result (λ claims. NoneFrom accepted.entry.table.now.count claims) }
 {
     let count = accepted.table.count;
     let mut claims = [Response::Unschedulable; Table::MOST_TASKS];

@@ -102,13 +102,6 @@ fn lacking(
     lacks
 }
 
-// The smaller of two numbers.
-pub fn lesser(a: u64, b: u64) -> u64
-    ensures { (result ≤ a) × (result ≤ b) }
-{
-    if a < b { a } else { b }
-}
-
 // The least of `count` numbers of a list from one on.
 fn least_of(list: &[u64], from: usize, count: usize) -> u64
     requires { (1 ≤ count) × (from + count ≤ length list.now) × (from + count ≤ 100000) }
@@ -117,7 +110,7 @@ fn least_of(list: &[u64], from: usize, count: usize) -> u64
     let mut least = list[from];
     let end = from + count;
     for i in from..end {
-        least = lesser(least, list[i]);
+        least = least.min(list[i]);
     }
     least
 }

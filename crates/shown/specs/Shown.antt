@@ -1,6 +1,6 @@
 -- The report of a table as people see it: headings, a line for each task, and which methods pass. In it `answers m i` is what method m answers for the
 -- task at position i.
-use Rattle.std.specs.Prelude.{◌≡◌, ℕ, Bool, true, false, List, [], ◌∷◌, ◌++◌, map, codes, Result, Ok, Err}
+use Rattle.std.specs.Prelude.{◌≡◌, ℕ, Bool, true, false, List, [], ◌∷◌, ◌++◌, map, codes, Result, Ok, Err, IsOk}
 use Rattle.search.specs.declared.demand.Response.{Response}
 use Rattle.search.specs.declared.demand.Response.TheVariants.{Within, Unschedulable}
 use Rattle.search.specs.Positions.{between}
@@ -70,7 +70,7 @@ shown_to colours text = do
   table ← read_text text
   Ok (shown_of colours table)
 
--- nothing is shown since the text is refused, or for lack of memory
+-- nothing is shown since the text is refused, or, of a text that is accepted, for lack of memory
 abbrev pub IsWhy : List ℕ → Unshown → Type 0
 IsWhy text (Refused refusal) = Err refusal ≡ read_text text
-IsWhy text NoMemory = Unit {0}
+IsWhy text NoMemory = IsOk (read_text text)
