@@ -51,7 +51,7 @@ FIELD = re.compile(r"^\s+(?:pub )?([a-z]\w*): |^\s+(?:ensures|requires) (\w+) \{
 DEFINED = re.compile(r"^ *(?:(?:abbrev|unfoldable|pub|record|data|intro) )*([^\s:(){}.,;`]+) *(?:[({].*)?:", re.M)
 VARIANT = re.compile(r"^\s+(?:pub )?([A-Z]\w*)\b", re.M)
 USED = re.compile(r"^(?:pub )?use Rattle\.(\w+)\.specs\.([\w.]+)\.\{", re.M)
-LISTED = re.compile(r"^\| `(\w+)` \| ((?:`\w+`(?:, )?)+) \|", re.M)
+LISTED = re.compile(r"^\| `(\w+)` \| ((?:`[\w/]+`(?:, )?)+) \|", re.M)
 
 
 def read(path):

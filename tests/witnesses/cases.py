@@ -521,6 +521,17 @@ def of_replay():
     return found
 
 
+def of_runs():
+    few = range(4)
+    found = ["latest_end %d %d" % (release, response) for release in (0, 3, 7) for response in (0, 1, 5, 10)]
+    found += ["most_releases %d %d %d" % (time, period, jitter) for time in (0, 1, 5, 6, 10) for period in (1, 5) for jitter in (0, 1, 4, 5)]
+    found += ["may_lose %d %d %d %d" % (victim, other, waiting, ceiling) for victim in few for other in few for waiting in few for ceiling in few]
+    found += ["may_take %d %d" % (lowest, user) for lowest in few for user in few]
+    found += ["must_reload %d %d" % (alone, there) for alone in (0, 1) for there in (0, 1)]
+    found += ["goes_to %s %s" % (first, held) for first in ("-", 0, 1, 2) for held in ("-", "2 0", "2 1", "3 2")]
+    return found
+
+
 def jittery():
     """Tables with a jitter, or an access, or both, on one line or another."""
     found = []
@@ -700,6 +711,14 @@ def of_builds():
 def of_shown():
     some = [text(it) for it, _ in tables(7, 20)] + [text(THREE), text(many_tasks(32)), '"a"', '""']
     return ["show %s %d" % (it, colours) for it in some for colours in (0, 1)] + ["no_memory"]
+
+
+# a task that is pre-empted while it holds a device: examples/preempted-blocker.table
+BLOCKER = head(4, 2) + "T\ta\t1\t20\t20\t0\t0\t0\t1\nT\tb\t1\t20\t20\t0\t0\t0\t0\nT\tc\t3\t30\t30\t0\t0\t1\t1\nA\tc\tb\t3\t1\n"
+
+
+def of_every_run():
+    return ["answer %s %d %d" % (text(it), m, i) for it in (THREE, BLOCKER) for m in METHODS for i in range(3)]
 
 
 def called(case):

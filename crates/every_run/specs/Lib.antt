@@ -1,0 +1,4 @@
+pub mod TableRuns
+pub mod Bounds
+pub mod Texts
+pub mod Measured
