@@ -19,11 +19,15 @@ pub struct AllocError;
 pub struct Vec<T>(pub std::vec::Vec<T>);
 impl<T> Vec<T> {
     pub fn new(_: Global) -> Self { Vec(vec![]) }
+    pub fn from_slice(_: Global, them: &[T]) -> Result<Self, AllocError> where T: Clone { Ok(Vec(them.to_vec())) }
     pub fn push(&mut self, it: T) -> Result<(), AllocError> { Ok(self.0.push(it)) }
     pub fn extend_from_slice(&mut self, them: &[T]) -> Result<(), AllocError> where T: Clone { Ok(self.0.extend_from_slice(them)) }
     pub fn as_slice(&self) -> &[T] { &self.0 }
     pub fn sort(&mut self) -> Result<(), AllocError> where T: Ord { Ok(self.0.sort()) }
     pub fn sort_by<F: FnMut(&T, &T) -> std::cmp::Ordering>(&mut self, by: F) -> Result<(), AllocError> { Ok(self.0.sort_by(by)) }
+}
+impl From<AllocError> for std::io::Error {
+    fn from(_: AllocError) -> Self { std::io::ErrorKind::OutOfMemory.into() }
 }
 impl<T> std::ops::Deref for Vec<T> {
     type Target = [T];

@@ -684,6 +684,20 @@ def of_crpd_report():
     return found
 
 
+def of_streams():
+    found = ["read_input %s %s %d" % (text("a" * n), steps, room) for n in (0, 3, 12) for steps in ("-", "2", "0", "1", "2,1", "3,0,4") for room in (0, 2, 10, 20)]
+    return found + ["write_output %s %d" % (text("a" * n), room) for n in (0, 3, 12) for room in (0, 3, 5, 100)]
+
+
+def of_answered():
+    late = "K\t4\t1\nT\ta\t5\t10\t10\t0\t0\t0\t0\nT\tb\t6\t20\t11\t0\t0\t0\t0\n"
+    some = [text(it) for it, _ in tables(7, 12)] + [text(it) for it in (THREE, late, late.replace("a\t5", "a\t8"), THREE[:-1], "", many_tasks(8))]
+    found = ["%s %s" % (name, it) for it in some for name in ("report", "edf")] + ["show %s %d" % (it, colours) for it in some for colours in (0, 1)]
+    found += ["%s %s %d" % (name, it, n) for it in some for name, most in (("growth", 6), ("scaled", 6), ("replay", 3)) for n in range(most + 1)]
+    found += ["%s %s %d %d" % (name, it, m, i) for it in some for name in ("answer", "explain") for m in (0, 2, 5, 6) for i in (0, 1, 2, 40)]
+    return found + ["read_text %s" % it for it in ('""', '"ab"', '"a"*16384', '"a"*16385', '"a"*20000')]
+
+
 def of_aligned():
     lines = [["1wtask", "1wlimit", *["1w" + it for it in ("none", "ecb-only", "ucb-only", "ucb-union", "ecb-union", "combined")]], ["0wa", "0n123456", "0n7", "3w-", "2wyes", "3wno", "0", "0n0"], ["0wmuch_longer", "0n0", *["0n99999999999"] * 6]]
     texts = [lines, lines[:1], lines[1:], lines[1:2], []]

@@ -1,22 +1,17 @@
 // The commands that ask one question of one table.
 use crate::files::{self, Input, deliver, print};
 use crate::progress;
+use answered::{Answered, Question};
 use asked::arguments::{Arguments, Asked, Opt};
 use asked::ending::{Ending, Outcome, Stop};
 use drawn::bars::{self, Undrawn};
-use lists::Fate;
 use refused::spelling;
-use search::demand::Response;
-use shown::Unshown;
 use std::alloc::{AllocError, Global};
 use std::fmt::Write as _;
 use std::io::IsTerminal;
 use table::Table;
 use table::refusals::Refusal;
 use writing::writer::ROOM;
-
-// A growth from here on: the table passes as it is.
-const AS_IT_IS: u64 = 1000;
 
 pub fn refused_stop(alloc: Global, input: &Input, refusal: Refusal) -> Stop {
     match refused::told(alloc, input.name.as_str(), input.text.as_slice(), refusal) {
@@ -29,16 +24,27 @@ pub fn all_pass(verdicts: [bool; 6]) -> bool {
     verdicts.iter().all(|passes| *passes)
 }
 
-pub fn report(rt: &HostRuntime, arguments: &Arguments) -> Outcome {
-    let input = files::read(rt, arguments.operand(0))?;
-    let mut out = [0u8; ROOM];
-    let told = builds::print(input.text.as_slice(), &mut out);
-    print(rt, out.get(..told.len).unwrap_or(&[]))?;
-    match told.fate {
-        Fate::Refused(refusal) => Err(refused_stop(rt.alloc(), &input, refusal)),
-        Fate::Judged(verdicts) => Ok(Ending::of_responses(all_pass(verdicts))),
-        Fate::Unread | Fate::Unwritten => Ok(Ending::Failed),
+// How a command ends whose question was answered.
+fn ended(rt: &HostRuntime, input: &Input, answered: Answered) -> Outcome {
+    files::is_written(rt.alloc(), answered.written)?;
+    match answered.ending {
+        Ok(ending) => Ok(ending),
+        Err(refusal) => Err(refused_stop(rt.alloc(), input, refusal)),
     }
+}
+
+// Answers a question about a text, on standard output.
+pub fn ask(rt: &HostRuntime, input: &Input, question: Question) -> Outcome {
+    let answered = answered::answer(question, input.text.as_slice(), &mut rt.stdout());
+    ended(rt, input, answered)
+}
+
+pub fn report(rt: &HostRuntime, arguments: &Arguments) -> Outcome {
+    ask(
+        rt,
+        &files::read(rt, arguments.operand(0))?,
+        Question::Report,
+    )
 }
 
 // Colours are for a terminal alone, and not for those who do not want them.
@@ -53,14 +59,10 @@ fn has_colours(rt: &HostRuntime) -> bool {
 
 pub fn show(rt: &HostRuntime, arguments: &Arguments) -> Outcome {
     let input = files::read(rt, arguments.operand(0))?;
-    match shown::show(rt.alloc(), input.text.as_slice(), has_colours(rt)) {
-        Ok(shown) => {
-            print(rt, shown.text.as_slice())?;
-            Ok(Ending::of_responses(shown.passes))
-        }
-        Err(Unshown::Refused(refusal)) => Err(refused_stop(rt.alloc(), &input, refusal)),
-        Err(Unshown::NoMemory) => Err(Stop::from(AllocError)),
-    }
+    let colours = has_colours(rt);
+    let text = input.text.as_slice();
+    let answered = answered::show(rt.alloc(), text, colours, &mut rt.stdout())?;
+    ended(rt, &input, answered)
 }
 
 // Refuses an output that is the table itself.
@@ -91,30 +93,6 @@ pub fn plot(rt: &HostRuntime, arguments: &Arguments) -> Outcome {
         }
         Err(Undrawn::Refused(refusal)) => Err(refused_stop(alloc, &input, refusal)),
         Err(Undrawn::NoMemory) => Err(Stop::from(AllocError)),
-    }
-}
-
-// One task of one table under one method.
-#[derive(Drop)]
-struct Question {
-    input: Input,
-    method: u64,
-    position: u64,
-    response: Response,
-}
-
-fn question_of(rt: &HostRuntime, arguments: &Arguments) -> Result<Question, Stop> {
-    let (method, asked) = (arguments.method(0)?, arguments.task(1)?);
-    let input = files::read(rt, arguments.operand(2))?;
-    let position = position(rt.alloc(), &input, asked)?;
-    match crpd::answer(input.text.as_slice(), method, position) {
-        Ok(response) => Ok(Question {
-            input,
-            method,
-            position,
-            response,
-        }),
-        Err(refusal) => Err(refused_stop(rt.alloc(), &input, refusal)),
     }
 }
 
@@ -159,69 +137,46 @@ fn counted(
 }
 
 pub fn answer(rt: &HostRuntime, arguments: &Arguments) -> Outcome {
-    let question = question_of(rt, arguments)?;
-    match question.response {
-        Response::Within(time) => {
-            let ticks = time.0;
-            let text = format!(in rt.alloc(); "{ticks}\n")?;
-            print(rt, text.as_str().as_bytes())?;
-        }
-        Response::Unschedulable => print(rt, b"-\n")?,
-    }
-    Ok(Ending::of_response(question.response))
+    let (method, asked) = (arguments.method(0)?, arguments.task(1)?);
+    let input = files::read(rt, arguments.operand(2))?;
+    let position = position(rt.alloc(), &input, asked)?;
+    ask(rt, &input, Question::Answer { method, position })
 }
 
 pub fn explain(rt: &HostRuntime, arguments: &Arguments) -> Outcome {
-    let question = question_of(rt, arguments)?;
-    let text = question.input.text.as_slice();
-    let mut out = [0u8; ROOM];
-    let lines = match crpd::explain(text, question.method, question.position, &mut out) {
-        Ok(end) => out.get(..end).unwrap_or(&[]),
-        Err(refusal) => return Err(refused_stop(rt.alloc(), &question.input, refusal)),
-    };
+    let (method, asked) = (arguments.method(0)?, arguments.task(1)?);
+    let input = files::read(rt, arguments.operand(2))?;
+    let position = position(rt.alloc(), &input, asked)?;
     if arguments.has(Opt::Words) {
-        let words = worded::explained(rt.alloc(), text, question.method, lines)?;
-        print(rt, words.as_str().as_bytes())?;
+        explain_in_words(rt, &input, method, position)
     } else {
-        print(rt, lines)?;
+        ask(rt, &input, Question::Explain { method, position })
     }
-    Ok(Ending::of_response(question.response))
 }
 
-// A text, with how much growth is left under a method.
-#[derive(Drop)]
-struct Grown {
-    input: Input,
-    method: u64,
-    growth: u64,
-}
-
-fn growth_of(rt: &HostRuntime, arguments: &Arguments) -> Result<Grown, Stop> {
-    let method = arguments.method(0)?;
-    let input = files::read(rt, arguments.operand(1))?;
-    match crpd::growth(input.text.as_slice(), method) {
-        Ok(growth) => Ok(Grown {
-            input,
-            method,
-            growth,
-        }),
-        Err(refusal) => Err(refused_stop(rt.alloc(), &input, refusal)),
+fn explain_in_words(rt: &HostRuntime, input: &Input, method: u64, position: u64) -> Outcome {
+    let text = input.text.as_slice();
+    let mut out = [0u8; ROOM];
+    let lines = match crpd::explain(text, method, position, &mut out) {
+        Ok(end) => out.get(..end).unwrap_or(&[]),
+        Err(refusal) => return Err(refused_stop(rt.alloc(), input, refusal)),
+    };
+    let words = worded::explained(rt.alloc(), text, method, lines)?;
+    print(rt, words.as_str().as_bytes())?;
+    match crpd::answer(text, method, position) {
+        Ok(response) => Ok(Ending::of_response(response)),
+        Err(refusal) => Err(refused_stop(rt.alloc(), input, refusal)),
     }
 }
 
 pub fn growth(rt: &HostRuntime, arguments: &Arguments) -> Outcome {
-    let growth = growth_of(rt, arguments)?.growth;
-    let text = format!(in rt.alloc(); "{growth}\n")?;
-    print(rt, text.as_str().as_bytes())?;
-    Ok(Ending::of_responses(AS_IT_IS <= growth))
+    let method = arguments.method(0)?;
+    let input = files::read(rt, arguments.operand(1))?;
+    ask(rt, &input, Question::Growth { method })
 }
 
 pub fn scaled(rt: &HostRuntime, arguments: &Arguments) -> Outcome {
-    let grown = growth_of(rt, arguments)?;
-    let mut out = [0u8; Table::LONGEST_TEXT];
-    match crpd::scaled(grown.input.text.as_slice(), grown.method, &mut out) {
-        Ok(end) => print(rt, out.get(..end).unwrap_or(&[]))?,
-        Err(refusal) => return Err(refused_stop(rt.alloc(), &grown.input, refusal)),
-    }
-    Ok(Ending::of_responses(AS_IT_IS <= grown.growth))
+    let method = arguments.method(0)?;
+    let input = files::read(rt, arguments.operand(1))?;
+    ask(rt, &input, Question::Scaled { method })
 }

@@ -1,6 +1,7 @@
 // Earliest deadline first: whether every job ends by its deadline.
-use crate::answers::refused_stop;
-use crate::files::{self, print};
+use crate::answers::{ask, refused_stop};
+use crate::files::{self, Input, print};
+use answered::Question;
 use asked::arguments::{Arguments, Opt};
 use asked::ending::{Ending, Outcome};
 use edf::Verdict;
@@ -9,25 +10,28 @@ use table::accepted::Accepted;
 use worded::overrun;
 
 pub fn edf(rt: &HostRuntime, arguments: &Arguments) -> Outcome {
-    let alloc = rt.alloc();
     let input = files::read(rt, arguments.operand(0))?;
+    if arguments.has(Opt::Words) {
+        in_words(rt, &input)
+    } else {
+        ask(rt, &input, Question::Edf)
+    }
+}
+
+fn in_words(rt: &HostRuntime, input: &Input) -> Outcome {
+    let alloc = rt.alloc();
     let text = input.text.as_slice();
     let is_in_time = match crpd::edf(text) {
-        Ok(Verdict::Yes) => true,
-        Ok(Verdict::No) => false,
-        Err(refusal) => return Err(refused_stop(alloc, &input, refusal)),
+        Ok(verdict) => matches!(verdict, Verdict::Yes),
+        Err(refusal) => return Err(refused_stop(alloc, input, refusal)),
     };
-    if arguments.has(Opt::Words) {
-        let mut table = Table::empty();
-        match Accepted::read(text, &mut table) {
-            Ok(accepted) => {
-                let words = overrun::told(alloc, accepted)?;
-                print(rt, words.as_str().as_bytes())?;
-            }
-            Err(refusal) => return Err(refused_stop(alloc, &input, refusal)),
+    let mut table = Table::empty();
+    match Accepted::read(text, &mut table) {
+        Ok(accepted) => {
+            let words = overrun::told(alloc, accepted)?;
+            print(rt, words.as_str().as_bytes())?;
+            Ok(Ending::of_responses(is_in_time))
         }
-    } else {
-        print(rt, if is_in_time { "yes\n" } else { "no\n" }.as_bytes())?;
+        Err(refusal) => Err(refused_stop(alloc, input, refusal)),
     }
-    Ok(Ending::of_responses(is_in_time))
 }

@@ -12,6 +12,7 @@ use std::fmt::Write as _;
 use std::fs;
 use std::io::{self, ErrorKind, Read};
 use std::rt::Files;
+use streams::read_input;
 
 // What was found below a folder: the builds by their names, and what is to be told of folders that could not be read.
 #[derive(Drop)]
@@ -228,7 +229,7 @@ fn text_of(rt: &HostRuntime, path: &[u8], buf: &mut [u8]) -> io::Result<usize> {
     if !fs::metadata(rt, path)?.is_file() {
         return Err(io::Error::other("it is no plain file"));
     }
-    files::filled(&mut fs::open(rt, path)?, buf)
+    read_input(&mut fs::open(rt, path)?, buf)
 }
 
 // The file beside a table that has its report.

@@ -7,7 +7,7 @@ use std::fmt::Write as _;
 use std::fs::{self, Metadata, OpenOptions, Permissions};
 use std::io::{self, ErrorKind, Read, Write};
 use std::os::unix::fs::MetadataExt;
-use table::Table;
+use streams::write_output;
 
 // A text, and the name under which people are told of it.
 #[derive(Drop)]
@@ -38,30 +38,6 @@ pub fn path_of_folder(alloc: Global, name: &[u8]) -> Result<String, Stop> {
     }
 }
 
-// Reads until the input ends or the buffer is full, and tells how many bytes came.
-pub fn filled<R: Read>(input: &mut R, buf: &mut [u8]) -> io::Result<usize> {
-    let mut len = 0;
-    for _ in 0..u64::MAX {
-        if len >= buf.len() {
-            break;
-        }
-        match input.read(&mut buf[len..]) {
-            Ok(0) => break,
-            Ok(more) => len += more,
-            Err(error) if error.kind() == ErrorKind::Interrupted => {}
-            Err(error) => return Err(error),
-        }
-    }
-    Ok(len)
-}
-
-// What a source holds, up to the first byte that is too many: who has more is refused, however long it goes on.
-fn of_table<R: Read>(alloc: Global, source: &mut R) -> io::Result<Vec<u8>> {
-    let mut buf = [0u8; Table::LONGEST_TEXT + 1];
-    let len = filled(source, &mut buf)?;
-    Ok(Vec::from_slice(alloc, buf.get(..len).unwrap_or(&[]))?)
-}
-
 // The file that is named; none where it is standard input.
 pub fn named(file: Option<&[u8]>) -> Option<&[u8]> {
     match file {
@@ -71,7 +47,7 @@ pub fn named(file: Option<&[u8]>) -> Option<&[u8]> {
 }
 
 fn of_file(rt: &HostRuntime, name: &[u8]) -> io::Result<Vec<u8>> {
-    of_table(rt.alloc(), &mut fs::open(rt, path_of(name)?)?)
+    answered::read_text(rt.alloc(), &mut fs::open(rt, path_of(name)?)?)
 }
 
 // The text of a file; that of standard input where none is named, or `-`.
@@ -81,7 +57,7 @@ pub fn read(rt: &HostRuntime, file: Option<&[u8]>) -> Result<Input, Stop> {
         Some(path) => (spelling::word(alloc, path)?, of_file(rt, path)),
         None => (
             String::from_str(alloc, "standard input")?,
-            of_table(alloc, &mut rt.stdin()),
+            answered::read_text(alloc, &mut rt.stdin()),
         ),
     };
     match text {
@@ -170,13 +146,18 @@ pub fn output<'a>(rt: &HostRuntime, arguments: &'a Arguments) -> Result<&'a [u8]
     Ok(name)
 }
 
-// Writes to standard output. That nobody reads it any more is no failure.
-pub fn print(rt: &HostRuntime, text: &[u8]) -> Result<(), Stop> {
-    match rt.stdout().write_all(text) {
+// Whether standard output got all. That nobody reads it any more is no failure.
+pub fn is_written(alloc: Global, written: io::Result<()>) -> Result<(), Stop> {
+    match written {
         Ok(()) => Ok(()),
         Err(error) if error.kind() == ErrorKind::BrokenPipe => Ok(()),
-        Err(error) => Err(Stop::failed(rt.alloc(), "standard output", "written", error)),
+        Err(error) => Err(Stop::failed(alloc, "standard output", "written", error)),
     }
+}
+
+// Writes to standard output.
+pub fn print(rt: &HostRuntime, text: &[u8]) -> Result<(), Stop> {
+    is_written(rt.alloc(), write_output(&mut rt.stdout(), text))
 }
 
 // Says something on standard error. That nobody can be told is no reason to stop.

@@ -1,12 +1,12 @@
 // A replay tick by tick: when a first job ends, and the ticks until then as a picture.
-use crate::answers::{position, refused_stop, spare_input};
-use crate::files::{self, Input, deliver, print};
+use crate::answers::{ask, position, refused_stop, spare_input};
+use crate::files::{self, Input, deliver};
+use answered::Question;
 use asked::arguments::{Arguments, Opt};
 use asked::ending::{Ending, Outcome, Stop};
 use cache::units::Ticks;
 use replay::ticks::LONGEST_PAGE;
 use std::alloc::Global;
-use std::fmt::Write as _;
 use table::Table;
 use table::accepted::Accepted;
 
@@ -29,17 +29,15 @@ pub fn replay(rt: &HostRuntime, arguments: &Arguments) -> Outcome {
         return Err(refused_stop(alloc, &input, refusal));
     }
     let position = position(alloc, &input, asked)?;
+    let Some(out) = out else {
+        return ask(rt, &input, Question::Replay { position });
+    };
     let end = match crpd::replay(text, position) {
         Ok(end) => end,
         Err(refusal) => return Err(refused_stop(alloc, &input, refusal)),
     };
-    match out {
-        Some(out) => {
-            let picture = pictured(alloc, &input, position, end)?;
-            deliver(rt, out, picture.as_str().as_bytes())?;
-        }
-        None => tell(rt, end)?,
-    }
+    let picture = pictured(alloc, &input, position, end)?;
+    deliver(rt, out, picture.as_str().as_bytes())?;
     Ok(Ending::of_responses(end.is_some()))
 }
 
@@ -57,16 +55,4 @@ fn pictured(
     };
     let position = usize::try_from(position).unwrap_or(usize::MAX);
     Ok(timelines::picture(alloc, input.name.as_str(), accepted, position, end)?)
-}
-
-// When the job ends, or that it is unfinished at its deadline.
-fn tell(rt: &HostRuntime, end: Option<Ticks>) -> Result<(), Stop> {
-    match end {
-        Some(end) => {
-            let tick = end.0;
-            let text = format!(in rt.alloc(); "{tick}\n")?;
-            print(rt, text.as_str().as_bytes())
-        }
-        None => print(rt, b"-\n"),
-    }
 }

@@ -1,2 +1,1 @@
 mod LongTexts
-mod Streams

@@ -1,28 +1,12 @@
 -- A text longer than 16,384 bytes is refused by its length alone: what stands behind its first 16,385 bytes changes nothing of what is printed, and of how it goes.
-use Rattle.std.proofs.Common.{◌≡◌, ℕ, ◌<◌, List, ◌++◌, Some, None, IfSome, length, take, arith, refl, sym, ap, subst, ◌∙◌, take_all, length-take-le}
-use Rattle.std.proofs.Math.Decide.{dec_lt}
+use Rattle.std.proofs.Common.{◌≡◌, ℕ, List, ◌++◌, Some, None, IfSome, length, take, refl, sym, ap, subst, ◌∙◌}
 use Rattle.std.proofs.Math.Seq.{take-append_seam}
-use Rattle.std.proofs.lemmas.Bool.{lt-ltb}
 use Rattle.std.specs.Prelude.{Option}
 use Rattle.std.specs.Io.KnownBytes.{Consumes, Appends}
-use Rattle.table.specs.declared.refusals.Reason.TheVariants.{TooLong}
-use Rattle.table.specs.Faults.{no_field}
-use Rattle.table.specs.Rows.{unless_fault}
-use Rattle.table.specs.Reading.{read_text, refused}
 use Rattle.crpd.specs.declared.Outcome.{Outcome}
 use Rattle.crpd.specs.Operations.{printed, outcome_to}
-use Rattle.crpd_report.specs.Runs.{AppendsPart}
-
-too_long : (text : List ℕ) → 16384 < length text → read_text text ≡ refused (no_field TooLong) 0
-unfolding read_text unless_fault
-too_long text long = rw (lt-ltb 16384 (length text) long) refl
-
-read_front : (text : List ℕ) → read_text (take 16385 text) ≡ read_text text
-read_front text =
-    elim (dec_lt 16384 (length text)) [
-      | yes long ↦ too_long (take 16385 text) (omega (arith, length-take-le 16385 text long)) ∙ sym (too_long text long)
-      | no short ↦ ap read_text (take_all 16385 text (omega arith))
-    ]
+use Rattle.streams.specs.Bytes.{AppendsPart}
+use Rattle.streams.proofs.LongTexts.{read_front}
 
 printed_front : (text : List ℕ) → printed (take 16385 text) ≡ printed text
 unfolding printed

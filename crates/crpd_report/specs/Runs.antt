@@ -1,20 +1,13 @@
 -- What becomes of the bytes in a whole run, where it is known which the reader has left and which the writer holds. Of a stream whose bytes are not known nothing is
 -- said.
-use Rattle.std.specs.Prelude.{ℕ, ◌+◌, ◌<◌, ◌≡◌, List, length, take, Option, Result, Ok, Err}
+use Rattle.std.specs.Prelude.{ℕ, ◌+◌, ◌≡◌, List, take, Option, Result, Ok, Err}
 use Rattle.table.specs.declared.TheConstants.Table.{LONGEST_TEXT}
 use Rattle.std.specs.Io.KnownBytes.{Appends, Consumes, Keeps}
 use Rattle.crpd.specs.declared.Outcome.{Outcome}
 use Rattle.crpd.specs.Operations.{printed, outcome_to}
+use Rattle.streams.specs.Bytes.{ConsumesLess, AppendsPart}
 use Rattle.crpd_report.specs.declared.Failure.{Failure}
 use Rattle.crpd_report.specs.declared.Failure.TheVariants.{Read, Write}
-
--- fewer than so many of the reader's bytes were taken
-abbrev pub ConsumesLess : ℕ → Option (List ℕ) → Option (List ℕ) → Type 0
-ConsumesLess most before after = (taken : List ℕ) × (length taken < most) × Consumes before after taken
-
--- the writer got some of the bytes, the first ones, and not all
-abbrev pub AppendsPart : Option (List ℕ) → Option (List ℕ) → List ℕ → Type 0
-AppendsPart before after bytes = (n : ℕ) × (n < length bytes) × Appends before after (take n bytes)
 
 -- what was written of what is printed of a text: all of it, and how it went is told; where a write failed a part of it; where a read failed nothing
 abbrev pub Prints : List ℕ → Option (List ℕ) → Option (List ℕ) → Result Outcome Failure → Type 0

@@ -2,8 +2,8 @@
 use Rattle.std.proofs.Common.{◌≡◌, length, rules}
 use Rattle.std.specs.Io.KnownBytes.{Keeps}
 use Rattle.std.proofs.KnownBytes.{Keeps-refl}
-use Rattle.crpd_report.specs.Runs.{ConsumesLess}
-use Rattle.crpd_report.proofs.Streams.{for_some, less_most}
+use Rattle.streams.specs.Bytes.{ConsumesLess}
+use Rattle.streams.proofs.Streams.{for_some, less_most}
 use Rattle.crpd_report.proofs.LongTexts.{run_consumed, run_written, run_cut}
 use Rattle.crpd_report.proofs.run.Goals as goal
 

@@ -1,0 +1,337 @@
+// What the commands that ask one question of one table write, and how they end: over any reader and any writer, of every text.
+#![tactic(auto)]
+
+ghost use Rattle.std.specs.Prelude.{◌≡◌, ◌+◌, List, ℕ, take, Ok, IfOk, OnErr, nat_le, is_some};
+ghost use Rattle.std.specs.Io.KnownBytes.{Consumes};
+ghost use Rattle.table.specs.declared.TheConstants.Table.{LONGEST_TEXT};
+ghost use Rattle.table.specs.Reading.{then_read, read_text};
+ghost use Rattle.writing.specs.Text.{spelled};
+ghost use Rattle.writing.specs.Delivery.{PutsText};
+ghost use Rattle.analysis.specs.Verdict.{has_response};
+ghost use Rattle.endings.specs.Endings.{ending_of};
+ghost use Rattle.answered.specs.Answered.{as_line, told_response, told_end, told_yes, bytes_for, is_yes, ending_for, AnswersTo, ShowsTo, IsReadOf};
+
+use cache::units::Ticks;
+use crpd::Outcome;
+use edf::Verdict;
+use endings::Ending;
+use search::demand::Response;
+use shown::Unshown;
+use std::alloc::{AllocError, Global};
+use std::io::{self, Read, Write};
+use streams::{read_input, write_output};
+use table::Table;
+use table::refusals::Refusal;
+use writing::delivery;
+use writing::writer::{Draft, ROOM};
+
+// What is asked of a text.
+#[derive(Clone, Copy)]
+pub enum Question {
+    Report,
+    Answer { method: u64, position: u64 },
+    Explain { method: u64, position: u64 },
+    Growth { method: u64 },
+    Scaled { method: u64 },
+    Edf,
+    Replay { position: u64 },
+}
+
+// From a growth of as many thousandths on the table passes as it is.
+const AS_IT_IS: u64 = 1000;
+
+// What stands in a buffer: how long it is, and how the command ends, unless the text is refused.
+#[derive(Clone, Copy)]
+struct Made {
+    len: usize,
+    ending: Result<Ending, Refusal>,
+}
+
+// A number as a line.
+#[tactic(auto, using(crate::proofs::Lines::number_fits))]
+fn put_number(n: u64, out: &mut [u8; Table::LONGEST_TEXT]) -> usize
+    ensures { PutsText (as_line (spelled n)) out.old result out.new }
+{
+    let mut draft = Draft::new();
+    draft.write(&n);
+    draft.push(b'\n');
+    delivery::put(draft.text(), out)
+}
+
+// A response as a line.
+fn put_response(response: Response, out: &mut [u8; Table::LONGEST_TEXT]) -> usize
+    ensures { PutsText (told_response response) out.old result out.new }
+{
+    match response {
+        Response::Within(time) => put_number(time.0, out),
+        Response::Unschedulable => delivery::put(b"-\n", out),
+    }
+}
+
+// Where a first job ends, as a line.
+fn put_end(end: Option<Ticks>, out: &mut [u8; Table::LONGEST_TEXT]) -> usize
+    ensures { PutsText (told_end end) out.old result out.new }
+{
+    match end {
+        Some(tick) => put_number(tick.0, out),
+        None => delivery::put(b"-\n", out),
+    }
+}
+
+// A verdict as a line.
+fn put_verdict(verdict: Verdict, out: &mut [u8; Table::LONGEST_TEXT]) -> usize
+    ensures { PutsText (told_yes verdict) out.old result out.new }
+{
+    match verdict {
+        Verdict::Yes => delivery::put(b"yes\n", out),
+        Verdict::No => delivery::put(b"no\n", out),
+    }
+}
+
+fn is_yes(verdict: Verdict) -> bool
+    ensures { result ≡ is_yes verdict }
+{
+    match verdict {
+        Verdict::Yes => true,
+        Verdict::No => false,
+    }
+}
+
+// How it ends where a response is told.
+fn ending_of_answer(answer: Result<Response, Refusal>) -> Result<Ending, Refusal>
+    ensures { result ≡ then_read answer (λ response. Ok (ending_of (has_response response))) }
+{
+    match answer {
+        Ok(response) => Ok(Ending::of_response(response)),
+        Err(refusal) => Err(refusal),
+    }
+}
+
+// How it ends where a growth is told.
+fn ending_of_growth(growth: Result<u64, Refusal>) -> Result<Ending, Refusal>
+    ensures { result ≡ then_read growth (λ k. Ok (ending_of (nat_le 1000 k))) }
+{
+    match growth {
+        Ok(k) => Ok(Ending::of_responses(AS_IT_IS <= k)),
+        Err(refusal) => Err(refusal),
+    }
+}
+
+// The report, or the line of the refusal.
+#[tactic(auto, unfolding(crate::specs::Answered::bytes_for, crate::specs::Answered::ending_for))]
+fn put_report(text: &[u8], out: &mut [u8; Table::LONGEST_TEXT]) -> Made
+    ensures bytes { PutsText (bytes_for Question.Report text.now) out.old result.len out.new }
+    ensures ending { result.ending ≡ ending_for Question.Report text.now }
+{
+    let mut report = [0u8; ROOM];
+    let printed = crpd::print(text, &mut report);
+    let len = delivery::put(&report[..printed.len], out);
+    match printed.outcome {
+        Outcome::Passed => Made {
+            len,
+            ending: Ok(Ending::Given),
+        },
+        Outcome::SomeUnschedulable => Made {
+            len,
+            ending: Ok(Ending::NoResponse),
+        },
+        Outcome::Refused => Made {
+            len,
+            ending: refusal_of(text),
+        },
+    }
+}
+
+// Why a text is refused, where it is.
+fn refusal_of(text: &[u8]) -> Result<Ending, Refusal>
+    ensures { result ≡ then_read (read_text text.now) (λ table. Ok Ending.Given) }
+{
+    let mut table = Table::empty();
+    match table.read(text) {
+        Ok(()) => Ok(Ending::Given),
+        Err(refusal) => Err(refusal),
+    }
+}
+
+// The lines of an explanation.
+#[tactic(auto, unfolding(crate::specs::Answered::bytes_for, crate::specs::Answered::ending_for), using(crate::proofs::Lines::text_put, crate::proofs::Lines::refusal_put))]
+fn put_explanation(
+    text: &[u8],
+    method: u64,
+    position: u64,
+    out: &mut [u8; Table::LONGEST_TEXT],
+) -> Made
+    ensures bytes { PutsText (bytes_for (Question.Explain method position) text.now) out.old result.len out.new }
+    ensures ending { result.ending ≡ ending_for (Question.Explain method position) text.now }
+{
+    match crpd::explain(text, method, position, out) {
+        Ok(len) => Made {
+            len,
+            ending: ending_of_answer(crpd::answer(text, method, position)),
+        },
+        Err(refusal) => Made {
+            len: 0,
+            ending: Err(refusal),
+        },
+    }
+}
+
+// The table with its growth.
+#[tactic(auto, unfolding(crate::specs::Answered::bytes_for, crate::specs::Answered::ending_for), using(crate::proofs::Lines::text_put, crate::proofs::Lines::refusal_put))]
+fn put_scaled(text: &[u8], method: u64, out: &mut [u8; Table::LONGEST_TEXT]) -> Made
+    ensures bytes { PutsText (bytes_for (Question.Scaled method) text.now) out.old result.len out.new }
+    ensures ending { result.ending ≡ ending_for (Question.Scaled method) text.now }
+{
+    match crpd::scaled(text, method, out) {
+        Ok(len) => Made {
+            len,
+            ending: ending_of_growth(crpd::growth(text, method)),
+        },
+        Err(refusal) => Made {
+            len: 0,
+            ending: Err(refusal),
+        },
+    }
+}
+
+// One response.
+#[tactic(auto, unfolding(crate::specs::Answered::bytes_for, crate::specs::Answered::ending_for))]
+fn put_answer(text: &[u8], method: u64, position: u64, out: &mut [u8; Table::LONGEST_TEXT]) -> Made
+    ensures bytes { PutsText (bytes_for (Question.Answer method position) text.now) out.old result.len out.new }
+    ensures ending { result.ending ≡ ending_for (Question.Answer method position) text.now }
+{
+    match crpd::answer(text, method, position) {
+        Ok(response) => Made {
+            len: put_response(response, out),
+            ending: Ok(Ending::of_response(response)),
+        },
+        Err(refusal) => Made {
+            len: 0,
+            ending: Err(refusal),
+        },
+    }
+}
+
+// How much growth is left.
+#[tactic(auto, unfolding(crate::specs::Answered::bytes_for, crate::specs::Answered::ending_for))]
+fn put_growth(text: &[u8], method: u64, out: &mut [u8; Table::LONGEST_TEXT]) -> Made
+    ensures bytes { PutsText (bytes_for (Question.Growth method) text.now) out.old result.len out.new }
+    ensures ending { result.ending ≡ ending_for (Question.Growth method) text.now }
+{
+    match crpd::growth(text, method) {
+        Ok(k) => Made {
+            len: put_number(k, out),
+            ending: Ok(Ending::of_responses(AS_IT_IS <= k)),
+        },
+        Err(refusal) => Made {
+            len: 0,
+            ending: Err(refusal),
+        },
+    }
+}
+
+// Whether the earliest deadline first is in time.
+#[tactic(auto, unfolding(crate::specs::Answered::bytes_for, crate::specs::Answered::ending_for))]
+fn put_edf(text: &[u8], out: &mut [u8; Table::LONGEST_TEXT]) -> Made
+    ensures bytes { PutsText (bytes_for Question.Edf text.now) out.old result.len out.new }
+    ensures ending { result.ending ≡ ending_for Question.Edf text.now }
+{
+    match crpd::edf(text) {
+        Ok(verdict) => Made {
+            len: put_verdict(verdict, out),
+            ending: Ok(Ending::of_responses(is_yes(verdict))),
+        },
+        Err(refusal) => Made {
+            len: 0,
+            ending: Err(refusal),
+        },
+    }
+}
+
+// When a first job ends.
+#[tactic(auto, unfolding(crate::specs::Answered::bytes_for, crate::specs::Answered::ending_for))]
+fn put_replay(text: &[u8], position: u64, out: &mut [u8; Table::LONGEST_TEXT]) -> Made
+    ensures bytes { PutsText (bytes_for (Question.Replay position) text.now) out.old result.len out.new }
+    ensures ending { result.ending ≡ ending_for (Question.Replay position) text.now }
+{
+    match crpd::replay(text, position) {
+        Ok(end) => Made {
+            len: put_end(end, out),
+            ending: Ok(Ending::of_responses(end.is_some())),
+        },
+        Err(refusal) => Made {
+            len: 0,
+            ending: Err(refusal),
+        },
+    }
+}
+
+// What is written, at the buffer's start.
+fn put_for(question: Question, text: &[u8], out: &mut [u8; Table::LONGEST_TEXT]) -> Made
+    ensures bytes { PutsText (bytes_for question text.now) out.old result.len out.new }
+    ensures ending { result.ending ≡ ending_for question text.now }
+{
+    match question {
+        Question::Report => put_report(text, out),
+        Question::Answer { method, position } => put_answer(text, method, position, out),
+        Question::Explain { method, position } => put_explanation(text, method, position, out),
+        Question::Growth { method } => put_growth(text, method, out),
+        Question::Scaled { method } => put_scaled(text, method, out),
+        Question::Edf => put_edf(text, out),
+        Question::Replay { position } => put_replay(text, position, out),
+    }
+}
+
+// What became of a question: how the command ends, unless the text is refused; and whether all was written.
+#[derive(Drop)]
+pub struct Answered {
+    pub ending: Result<Ending, Refusal>,
+    pub written: io::Result<()>,
+}
+
+// Writes the answer to a question about a text, and nothing else. The ending is that of the text, whatever becomes of the writing. Where the text is what was read of
+// more bytes, it is the answer to all of them.
+#[tactic(auto, using(crate::proofs::Lines::answers, crate::proofs::Fronts::answers_whole))]
+pub fn answer<W: Write>(question: Question, text: &[u8], writer: &mut W) -> Answered
+    ensures answers { AnswersTo question text.now (W.contents writer.old) (W.contents writer.new) result }
+    ensures whole { (bytes : List ℕ) → text.now ≡ take (LONGEST_TEXT + 1) bytes → AnswersTo question bytes (W.contents writer.old) (W.contents writer.new) result }
+{
+    let mut out = [0u8; Table::LONGEST_TEXT];
+    let made = put_for(question, text, &mut out);
+    Answered {
+        ending: made.ending,
+        written: write_output(writer, &out[..made.len]),
+    }
+}
+
+// Writes the report as people see it, and nothing else.
+pub fn show<W: Write>(
+    alloc: Global,
+    text: &[u8],
+    colours: bool,
+    writer: &mut W,
+) -> Result<Answered, AllocError>
+    ensures { IfOk result (λ answered. ShowsTo colours text.now (W.contents writer.old) (W.contents writer.new) answered) }
+{
+    match shown::show(alloc, text, colours) {
+        Ok(shown) => Ok(Answered {
+            ending: Ok(Ending::of_responses(shown.passes)),
+            written: write_output(writer, shown.text.as_slice()),
+        }),
+        Err(Unshown::Refused(refusal)) => Ok(Answered {
+            ending: Err(refusal),
+            written: write_output(writer, b""),
+        }),
+        Err(Unshown::NoMemory) => Err(AllocError),
+    }
+}
+
+// The text of a table that a reader has: all of it, or as many bytes as tell that it is too long. What follows is not read.
+pub fn read_text<R: Read>(alloc: Global, reader: &mut R) -> io::Result<Vec<u8>>
+    ensures text { IfOk result (λ text. IsReadOf (R.remaining reader.old) text.items) }
+    ensures taken { IfOk result (λ text. Consumes (R.remaining reader.old) (R.remaining reader.new) text.items) }
+{
+    let mut buf = [0u8; Table::LONGEST_TEXT + 1];
+    let len = read_input(reader, &mut buf)?;
+    Ok(Vec::from_slice(alloc, &buf[..len])?)
+}

@@ -1,0 +1,6 @@
+-- What was read has failed so far, and took nothing.
+use Rattle.std.specs.Io.KnownBytes.{Keeps}
+use Rattle.streams.proofs.read_some.Given as goal
+
+abbrev pub invariant-loop : goal.invariant-loop
+invariant-loop g l = Keeps (g.R.Read.remaining l.initial.input) (g.R.Read.remaining l.input)

@@ -1,0 +1,36 @@
+// What `answered` writes and tells.
+use crate::{answer as answer_to, read_text, show, Answered, Question};
+use ::heap::Global;
+
+#[path = "common.rs"]
+mod common;
+use common::{text, unknown, Args};
+
+fn told(answered: Answered, out: &[u8]) -> String {
+    format!("{} {} {}", text(out), common::show(answered.ending), answered.written.is_ok())
+}
+
+fn answer(name: &str, args: &mut Args) -> String {
+    let bytes = args.bytes();
+    let mut out = vec![];
+    let question = match name {
+        "read_text" => return text(&read_text(Global, &mut &bytes[..]).unwrap()),
+        "show" => {
+            let shown = show(Global, &bytes, args.number() == 1, &mut out);
+            return told(shown.ok().unwrap(), &out);
+        }
+        "report" => Question::Report,
+        "answer" => Question::Answer { method: args.number(), position: args.number() },
+        "explain" => Question::Explain { method: args.number(), position: args.number() },
+        "growth" => Question::Growth { method: args.number() },
+        "scaled" => Question::Scaled { method: args.number() },
+        "edf" => Question::Edf,
+        "replay" => Question::Replay { position: args.number() },
+        _ => return unknown(name),
+    };
+    told(answer_to(question, &bytes, &mut out), &out)
+}
+
+pub fn main() {
+    common::run(answer);
+}
