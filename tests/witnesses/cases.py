@@ -722,6 +722,14 @@ def of_builds():
     return found + ["write_reports %d %d %s" % (k, n, " ".join(it)) for k, n in ((1, 1), (1, 2), (2, 2), (3, 3)) for it in (held, held[:2], held[3:], [])]
 
 
+def of_changes():
+    base = "K\t8\t10\nT\ta\t40\t200\t200\t0\t0\t00\t0f\nT\tb\t100\t500\t500\t0\t0\t07\t3f\nT\tc\t300\t1000\t1000\t0\t0\tf8\tff\nA\tc\tb\t5\t01\n"
+    others = [base.replace(*it) for it in (("\t10\n", "\t11\n"), ("b\t100", "b\t120"), ("500\t500\t0", "500\t500\t9"), ("500\t500", "500\t400"), ("500\t500", "600\t500"), ("\t07\t3f", "\t0f\t3f"), ("\t07\t3f", "\t07\t7f"), ("b\t5\t01", "b\t6\t01"), ("b\t5\t01", "b\t5\t03"), ("T\tb", "T\td"), ("A\tc\tb\t5\t01\n", ""))][:-2]
+    pairs = [(base, base)] + [it for other in others for it in ((base, other), (other, base))]
+    found = ["%s %s %s" % (name, text(one), text(other)) for name in ("is_harder", "compared", "between", "moved", "compare") for one, other in pairs]
+    return found + ["is_empty %d" % n for n in range(3)]
+
+
 def of_shown():
     some = [text(it) for it, _ in tables(7, 20)] + [text(THREE), text(many_tasks(32)), '"a"', '""']
     return ["show %s %d" % (it, colours) for it in some for colours in (0, 1)] + ["no_memory"]

@@ -1,5 +1,5 @@
 // The commands: what each is called, what it may be given, what it does, and what people are taught of it.
-use crate::{answers, deadlines, evaluate, help, partner, pool, replays};
+use crate::{answers, compared, deadlines, evaluate, help, partner, pool, replays};
 use asked::arguments::{Arguments, Form, Opt};
 use asked::ending::Outcome;
 
@@ -17,10 +17,11 @@ pub enum Command {
     Plot,
     Reports,
     Lists,
+    Changes,
     Evaluate,
 }
 
-pub const ALL: [Command; 13] = [
+pub const ALL: [Command; 14] = [
     Command::Report,
     Command::Answer,
     Command::Explain,
@@ -33,6 +34,7 @@ pub const ALL: [Command; 13] = [
     Command::Plot,
     Command::Reports,
     Command::Lists,
+    Command::Changes,
     Command::Evaluate,
 ];
 
@@ -100,6 +102,7 @@ impl Command {
             Command::Plot => "plot",
             Command::Reports => "reports",
             Command::Lists => "lists",
+            Command::Changes => "changes",
             Command::Evaluate => "evaluate",
         }
     }
@@ -118,6 +121,7 @@ impl Command {
             Command::Plot => "plot [FILE] -o OUT.svg",
             Command::Reports => "reports [--part K/N] [-o LIST] FOLDER",
             Command::Lists => "lists [-o LIST] FILE..",
+            Command::Changes => "changes [--words] OLD NEW",
             Command::Evaluate => "evaluate [--sets N] [--seed S] -o OUT.svg",
         }
     }
@@ -136,6 +140,7 @@ impl Command {
             Command::Plot => "the report as a picture",
             Command::Reports => "the reports of all tables below a folder, and a list",
             Command::Lists => "one list of the lists of parts",
+            Command::Changes => "what moved between two tables, or two folders of them",
             Command::Evaluate => "the paper's evaluation, done again",
         }
     }
@@ -154,6 +159,7 @@ impl Command {
             Command::Plot => help::PLOT,
             Command::Reports => help::REPORTS,
             Command::Lists => help::LISTS,
+            Command::Changes => help::CHANGES,
             Command::Evaluate => help::EVALUATE,
         }
     }
@@ -170,6 +176,7 @@ impl Command {
             Command::Plot => picture_form(1, &[Opt::Output]),
             Command::Reports => operands(1, 1, &[Opt::Jobs, Opt::Part, Opt::Output]),
             Command::Lists => operands(1, usize::MAX, &[Opt::Output]),
+            Command::Changes => operands(2, 2, &[Opt::Words]),
             Command::Evaluate => {
                 picture_form(0, &[Opt::Sets, Opt::Seed, Opt::Jobs, Opt::Output])
             }
@@ -190,6 +197,7 @@ impl Command {
             Command::Plot => answers::plot(rt, arguments),
             Command::Reports => pool::reports(rt, arguments),
             Command::Lists => pool::lists(rt, arguments),
+            Command::Changes => compared::changes(rt, arguments),
             Command::Evaluate => evaluate::evaluate(rt, arguments),
         }
     }

@@ -3,6 +3,7 @@
 
 mod answers;
 mod commands;
+mod compared;
 mod deadlines;
 mod disk;
 mod evaluate;

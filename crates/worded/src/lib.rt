@@ -3,6 +3,8 @@
 
 // What is found of a partner's claims.
 pub mod claimed;
+// What moved between two tables, build by build.
+pub mod moved;
 // Earliest deadline first: the first time at which too much is asked for.
 pub mod overrun;
 

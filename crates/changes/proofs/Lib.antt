@@ -1,0 +1,4 @@
+-- What belongs to no one function.
+pub mod Below
+pub mod Places
+pub mod Relation
