@@ -2,7 +2,7 @@
 """Every public function has two must-fail edits that turn its meaning: one counts where it is made in the function itself, or where its witness (tests/witnesses) calls it.
 tests/public_functions.txt has a line for each function, NAME: CALLS, with the words by which cases call it, and behind `|` why there are fewer, where there are. It fails for a
 function without a line, a line without a function, and fewer edits without a reason or a reason with two. Crates of which no more is proved than that they end and stay in
-range (SAFE) are tested by tests/command.py, and have no edits. The last line is `N passed, M failed`; `--list` prints how many each has."""
+range (SAFE) are tested by tests/command.py and tests/dossier.py, and have no edits. The last line is `N passed, M failed`; `--list` prints how many each has."""
 import glob
 import os
 import re
@@ -15,7 +15,7 @@ import cases as made
 import witnesses
 
 ROOT = witnesses.ROOT
-SAFE = {"test_vectors", "refused", "drawn", "evaluated", "asked", "worded", "timelines", "change_lines", "crpd_command"}
+SAFE = {"test_vectors", "refused", "drawn", "evaluated", "asked", "worded", "timelines", "change_lines", "dossier", "files", "crpd_command"}
 IMPL = re.compile(r"impl(?:<[^>]*>)? (?:(\w+)(?:<[^>]*>)? for )?(&?[^{]*?) \{")
 FUNCTION = re.compile(r'\s*(pub )?(?:extern "C" )?fn (\w+)')
 

@@ -8,7 +8,7 @@ import subprocess
 from cases.asking import CONTROLLER, EXAMPLE, fine, fresh_folder
 from common import BUILDING, COMMAND, contents, environment, must, run, same, write
 
-NAMES = ["report", "answer", "explain", "growth", "scaled", "check", "edf", "replay", "show", "plot", "reports", "lists", "changes", "evaluate"]
+NAMES = ["report", "answer", "explain", "growth", "scaled", "check", "edf", "replay", "show", "plot", "dossier", "reports", "lists", "changes", "evaluate"]
 
 
 def helped():

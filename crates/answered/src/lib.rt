@@ -1,7 +1,7 @@
 // What the commands that ask one question of one table write, and how they end: over any reader and any writer, of every text.
 #![tactic(auto)]
 
-ghost use Rattle.std.specs.Prelude.{◌≡◌, ◌+◌, List, ℕ, take, Ok, IfOk, OnErr, nat_le, is_some};
+ghost use Rattle.std.specs.Prelude.{◌≡◌, ◌+◌, List, ℕ, take, Ok, IfOk, nat_le, is_some};
 ghost use Rattle.std.specs.Io.KnownBytes.{Consumes};
 ghost use Rattle.table.specs.declared.TheConstants.Table.{LONGEST_TEXT};
 ghost use Rattle.table.specs.Reading.{then_read, read_text};

@@ -1,5 +1,5 @@
 -- A field of useful blocks is short.
-use Rattle.std.proofs.Common.{ℕ, ◌≤◌, ◌/◌, length, arith}
+use Rattle.std.proofs.Common.{ℕ, ◌≤◌, length, arith}
 use Rattle.cache.specs.declared.useful.Form.{Form}
 use Rattle.cache.specs.declared.useful.Form.TheVariants.{Hex, Digits}
 use Rattle.cache.specs.declared.useful.Useful.{Useful}

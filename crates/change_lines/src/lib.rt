@@ -4,8 +4,6 @@
 // The builds of two folders, name by name.
 pub mod pairs;
 
-ghost use Rattle.std.specs.Prelude.{◌≤◌};
-
 use cache::sets::CacheSet;
 use cache::useful::{Form, Useful};
 use changes::figures::Value;

@@ -1,10 +1,10 @@
 -- The test whether a table is harder than another means just that.
-use Rattle.std.proofs.Common.{◌≡◌, ℕ, zero, suc, ◌+◌, ◌≤◌, ◌<◌, Bool, true, false, not, cond, ◌&&◌, ◌||◌, refl, sym, ap, ◌∙◌, arith, leb, eqb, eqb-true, eq-eqb, le-leb, zero-le, length, get_or}
+use Rattle.std.proofs.Common.{◌≡◌, ℕ, zero, suc, ◌≤◌, Bool, true, false, not, cond, ◌||◌, refl, arith, leb, eqb-true, eq-eqb, le-leb}
 use Rattle.std.proofs.Math.Decide.{dec_lt}
 use Rattle.std.proofs.lemmas.Bool.{leb-true, false≢true}
 use Rattle.cache.specs.Sets.{Set, ◌⊆◌}
 use Rattle.cache.specs.Words.{members}
-use Rattle.cache.specs.Counts.{Counts, nothing, of_set, ◌⊕◌, ◌≼◌}
+use Rattle.cache.specs.Counts.{nothing, of_set, ◌⊕◌, ◌≼◌}
 use Rattle.cache.specs.declared.useful.Useful.{Useful}
 use Rattle.cache.specs.Levels.{level, heights, counts}
 use Rattle.cache.proofs.SetLaws.{and_left, and_right}
@@ -14,7 +14,7 @@ use Rattle.table.specs.declared.Table.{Table}
 use Rattle.table.specs.Tables.{ways_in, at, access_at}
 use Rattle.table.specs.Accepted.{AcceptedTable, AcceptedTask, AcceptedAccess, BlocksBelow, MarksBelow}
 use Rattle.analysis.specs.Harder.{HarderTask, HarderAccess, Harder}
-use Rattle.changes.specs.Relations.{holds_below, no_more, all_in, is_harder_task, is_harder_access, is_harder}
+use Rattle.changes.specs.Relations.{no_more, all_in, is_harder_task, is_harder_access, is_harder}
 use Rattle.changes.proofs.Below.{and-both, below-each, each-below}
 
 -- no cache set counts but those of the table

@@ -4,7 +4,7 @@
 ghost use Rattle.std.specs.Prelude.{◌≡◌, true, ◌≤◌, ◌<◌};
 ghost use Rattle.cache.specs.Words.{members};
 ghost use Rattle.cache.specs.Levels.{counts};
-ghost use Rattle.table.specs.Tables.{ways_in, at, access_at};
+ghost use Rattle.table.specs.Tables.{at, access_at};
 ghost use Rattle.analysis.specs.Harder.{Harder};
 ghost use Rattle.changes.specs.Relations.{holds_below, no_more, all_in, is_harder_task, is_harder_access, is_harder, relation_of, is_named_alike, are_named_alike, relation_between};
 
@@ -42,12 +42,29 @@ impl Relation {
     }
 }
 
+// Whether the second has all of each level of the first. Then no cache set has more blocks; where it is not so, some may yet have no more.
+#[tactic(auto, using(crate::proofs::Levels::no_level, crate::proofs::Levels::level_more, crate::proofs::Levels::counts_more))]
+fn are_levels_in(first: &Useful, second: &Useful, ways: u64) -> bool
+    requires { ways ≤ 8 }
+    ensures { result ≡ true → no_more (counts ways first.now) (counts ways second.now) ≡ true }
+{
+    for l in 0..ways as usize {
+        if !first.level(l).is_in(second.level(l)) {
+            return false;
+        }
+    }
+    true
+}
+
 // Whether no cache set has more blocks.
 #[tactic(auto, using(crate::proofs::Below::none_below, crate::proofs::Below::below_more, crate::proofs::Below::fails_below))]
 fn are_no_more(first: &Useful, second: &Useful, ways: u64) -> bool
     requires { ways ≤ 8 }
     ensures { result ≡ no_more (counts ways first.now) (counts ways second.now) }
 {
+    if are_levels_in(first, second, ways) {
+        return true;
+    }
     for s in 0..CacheSet::MOST_SETS {
         if second.count(s, ways) < first.count(s, ways) {
             return false;
@@ -61,6 +78,9 @@ fn are_no_more(first: &Useful, second: &Useful, ways: u64) -> bool
 fn are_in(first: CacheSet, second: CacheSet) -> bool
     ensures { result ≡ all_in (members first) (members second) }
 {
+    if first.is_in(second) {
+        return true;
+    }
     for s in 0..CacheSet::MOST_SETS {
         if first.has(s) && !second.has(s) {
             return false;

@@ -1,10 +1,9 @@
 // The commands that ask one question of one table.
-use crate::files::{self, Input, deliver, print};
-use crate::progress;
 use answered::{Answered, Question};
 use asked::arguments::{Arguments, Asked, Opt};
 use asked::ending::{Ending, Outcome, Stop};
 use drawn::bars::{self, Undrawn};
+use files::{Input, deliver, print, progress};
 use refused::spelling;
 use std::alloc::{AllocError, Global};
 use std::fmt::Write as _;

@@ -1,5 +1,5 @@
 // The commands: what each is called, what it may be given, what it does, and what people are taught of it.
-use crate::{answers, compared, deadlines, evaluate, help, partner, pool, replays};
+use crate::{answers, compared, deadlines, dossiers, evaluate, help, partner, pool, replays};
 use asked::arguments::{Arguments, Form, Opt};
 use asked::ending::Outcome;
 
@@ -15,13 +15,14 @@ pub enum Command {
     Replay,
     Show,
     Plot,
+    Dossier,
     Reports,
     Lists,
     Changes,
     Evaluate,
 }
 
-pub const ALL: [Command; 14] = [
+pub const ALL: [Command; 15] = [
     Command::Report,
     Command::Answer,
     Command::Explain,
@@ -32,6 +33,7 @@ pub const ALL: [Command; 14] = [
     Command::Replay,
     Command::Show,
     Command::Plot,
+    Command::Dossier,
     Command::Reports,
     Command::Lists,
     Command::Changes,
@@ -100,6 +102,7 @@ impl Command {
             Command::Replay => "replay",
             Command::Show => "show",
             Command::Plot => "plot",
+            Command::Dossier => "dossier",
             Command::Reports => "reports",
             Command::Lists => "lists",
             Command::Changes => "changes",
@@ -119,6 +122,7 @@ impl Command {
             Command::Replay => "replay TASK [FILE] [-o OUT.svg]",
             Command::Show => "show [FILE]",
             Command::Plot => "plot [FILE] -o OUT.svg",
+            Command::Dossier => "dossier [FILE] -o PAGE.html | FOLDER",
             Command::Reports => "reports [--part K/N] [-o LIST] FOLDER",
             Command::Lists => "lists [-o LIST] FILE..",
             Command::Changes => "changes [--words] OLD NEW",
@@ -138,6 +142,7 @@ impl Command {
             Command::Replay => "when a first job ends, tick by tick, or a picture of it",
             Command::Show => "the report as a table for people",
             Command::Plot => "the report as a picture",
+            Command::Dossier => "a page to hand on: the table, its report and all that explains it",
             Command::Reports => "the reports of all tables below a folder, and a list",
             Command::Lists => "one list of the lists of parts",
             Command::Changes => "what moved between two tables, or two folders of them",
@@ -157,6 +162,7 @@ impl Command {
             Command::Replay => help::REPLAY,
             Command::Show => help::SHOW,
             Command::Plot => help::PLOT,
+            Command::Dossier => help::DOSSIER,
             Command::Reports => help::REPORTS,
             Command::Lists => help::LISTS,
             Command::Changes => help::CHANGES,
@@ -174,6 +180,7 @@ impl Command {
             Command::Edf => operands(0, 1, &[Opt::Words]),
             Command::Replay => REPLAYED,
             Command::Plot => picture_form(1, &[Opt::Output]),
+            Command::Dossier => operands(0, 1, &[Opt::Output]),
             Command::Reports => operands(1, 1, &[Opt::Jobs, Opt::Part, Opt::Output]),
             Command::Lists => operands(1, usize::MAX, &[Opt::Output]),
             Command::Changes => operands(2, 2, &[Opt::Words]),
@@ -195,6 +202,7 @@ impl Command {
             Command::Replay => replays::replay(rt, arguments),
             Command::Show => answers::show(rt, arguments),
             Command::Plot => answers::plot(rt, arguments),
+            Command::Dossier => dossiers::dossier(rt, arguments),
             Command::Reports => pool::reports(rt, arguments),
             Command::Lists => pool::lists(rt, arguments),
             Command::Changes => compared::changes(rt, arguments),

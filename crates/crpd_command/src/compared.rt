@@ -1,15 +1,14 @@
 // What moved between two tables, or between the tables below two folders. Both are answered anew: no report that lies there is believed.
-use crate::disk::{Disk, Found};
-use crate::files::{self, Input, Parts, print, tell};
-use crate::progress::Progress;
 use asked::arguments::{Arguments, Opt};
 use asked::ending::{Ending, Outcome, Stop};
 use builds::{Build, Folder};
 use change_lines::pairs::{self, Places};
 use changes::{Comparison, Source};
+use files::disk::{Disk, Found};
+use files::progress::Progress;
+use files::{Input, Parts, print, tell};
 use lists::{Fate, spelling};
 use std::alloc::{AllocError, Global};
-use std::fs;
 use table::Table;
 use table::refusals::Refusal;
 use worded::moved::{self, Counts};
@@ -21,7 +20,7 @@ pub fn changes(rt: &HostRuntime, arguments: &Arguments) -> Outcome {
         arguments.operand(1).unwrap_or(b""),
     );
     let mut told = Told::new(alloc, arguments.has(Opt::Words));
-    let failed = match (is_folder(rt, old), is_folder(rt, new)) {
+    let failed = match (files::is_folder(rt, old), files::is_folder(rt, new)) {
         (true, true) => in_folders(rt, old, new, &mut told)?,
         (false, false) => {
             in_files(rt, old, new, &mut told)?;
@@ -40,16 +39,6 @@ pub fn changes(rt: &HostRuntime, arguments: &Arguments) -> Outcome {
     }
     // that something moved has the status of a response that is missing
     Ok(Ending::of_responses(told.counts.changed == 0))
-}
-
-fn is_folder(rt: &HostRuntime, name: &[u8]) -> bool {
-    match (files::named(Some(name)), files::path_of(name)) {
-        (Some(_), Ok(path)) => match fs::metadata(rt, path) {
-            Ok(there) => there.is_dir(),
-            Err(_) => false,
-        },
-        _ => false,
-    }
 }
 
 // What is told: so much text waits to be printed, and what was counted.

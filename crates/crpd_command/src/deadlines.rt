@@ -1,10 +1,10 @@
 // Earliest deadline first: whether every job ends by its deadline.
 use crate::answers::{ask, refused_stop};
-use crate::files::{self, Input, print};
 use answered::Question;
 use asked::arguments::{Arguments, Opt};
 use asked::ending::{Ending, Outcome};
 use edf::Verdict;
+use files::{Input, print};
 use table::Table;
 use table::accepted::Accepted;
 use worded::overrun;

@@ -1,9 +1,9 @@
 // The command that does the paper's evaluation again.
-use crate::files::{self, deliver, print};
-use crate::progress::{self, Progress};
 use asked::arguments::{Arguments, Opt};
 use asked::ending::{Ending, Outcome, Stop};
 use evaluated::{Failure, Setting, Watcher, chart, figures};
+use files::progress::{self, Progress};
+use files::{deliver, print};
 use std::alloc::AllocError;
 use std::fmt::Write as _;
 

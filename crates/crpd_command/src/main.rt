@@ -5,13 +5,11 @@ mod answers;
 mod commands;
 mod compared;
 mod deadlines;
-mod disk;
+mod dossiers;
 mod evaluate;
-mod files;
 mod help;
 mod partner;
 mod pool;
-mod progress;
 mod replays;
 mod version;
 

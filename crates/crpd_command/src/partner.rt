@@ -1,11 +1,11 @@
 // A partner's list of claimed responses, and what is found of it.
 use crate::answers::refused_stop;
-use crate::files::{self, Input, print};
 use analysis::Method;
 use asked::arguments::{Arguments, Opt};
 use asked::ending::{Ending, Outcome, Stop};
 use claims::finding::judge;
 use claims::list;
+use files::{Input, print};
 use search::demand::Response;
 use std::alloc::Global;
 use table::Table;

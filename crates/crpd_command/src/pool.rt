@@ -1,11 +1,11 @@
 // The reports of all tables below a folder or of a part of them, and one list of them; and one list of the lists of parts.
 use crate::answers::all_pass;
-use crate::disk::{Disk, Found};
-use crate::files::{self, Parts, deliver, tell};
-use crate::progress::{self, Progress};
 use asked::arguments::Arguments;
 use asked::ending::{Ending, Outcome, Stop};
 use builds::Part;
+use files::disk::{Disk, Found};
+use files::progress::{self, Progress};
+use files::{Parts, deliver, tell};
 use lists::Fate;
 use refused::spelling;
 use std::alloc::{AllocError, Global};
@@ -80,7 +80,8 @@ pub fn reports(rt: &HostRuntime, arguments: &Arguments) -> Outcome {
     Ok(tally.worst)
 }
 
-fn ending_of(fate: Fate) -> Ending {
+// How a command ends by what became of a build.
+pub fn ending_of(fate: Fate) -> Ending {
     match fate {
         Fate::Judged(verdicts) => Ending::of_responses(all_pass(verdicts)),
         Fate::Refused(_) => Ending::Refused,

@@ -1,10 +1,10 @@
 // A replay tick by tick: when a first job ends, and the ticks until then as a picture.
 use crate::answers::{ask, position, refused_stop, spare_input};
-use crate::files::{self, Input, deliver};
 use answered::Question;
 use asked::arguments::{Arguments, Opt};
 use asked::ending::{Ending, Outcome, Stop};
 use cache::units::Ticks;
+use files::{Input, deliver};
 use replay::ticks::LONGEST_PAGE;
 use std::alloc::Global;
 use table::Table;

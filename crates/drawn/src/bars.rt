@@ -11,7 +11,8 @@ use table::Table;
 use table::accepted::Accepted;
 use table::refusals::Refusal;
 
-const WIDTH: Tenths = 8600;
+// How wide the picture is.
+pub const WIDTH: Tenths = 8600;
 
 const MARGIN: Tenths = 240;
 
@@ -106,7 +107,7 @@ fn draw_report(alloc: Global, name: &str, accepted: Accepted) -> Result<Drawn, A
 }
 
 // Where the task at a position begins.
-fn top_of(position: usize) -> Tenths {
+pub fn top_of(position: usize) -> Tenths {
     let position = Tenths::try_from(position).unwrap_or(0);
     TASK.saturating_mul(position).saturating_add(HEAD)
 }

@@ -59,7 +59,8 @@ fn escaped(alloc: Global, text: &str) -> Result<String, AllocError> {
     Ok(out)
 }
 
-fn put(out: &mut String, character: char) -> Done {
+// Adds a character as XML has it; one that XML does not allow is replaced.
+pub fn put(out: &mut String, character: char) -> Done {
     match character {
         '&' => out.push_str("&amp;"),
         '<' => out.push_str("&lt;"),

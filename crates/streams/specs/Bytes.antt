@@ -1,6 +1,6 @@
 -- What becomes of the bytes of a reader and of a writer, where it is known which the one has left and which the other holds. Of a stream whose bytes are not known
 -- nothing is said.
-use Rattle.std.specs.Prelude.{ℕ, ◌<◌, List, length, take, Option, Result, Ok, Err}
+use Rattle.std.specs.Prelude.{ℕ, ◌<◌, List, length, take, Option}
 use Rattle.std.specs.Io.KnownBytes.{Appends, Consumes}
 
 -- fewer than so many of the reader's bytes were taken

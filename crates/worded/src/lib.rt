@@ -19,6 +19,28 @@ use table::text::{Fields, Lines};
 
 type Done = Result<(), AllocError>;
 
+// An explanation: its sentences, a line each, and a sum where there is one.
+#[derive(Drop)]
+pub struct Explanation {
+    pub sentences: String,
+    pub sum: Option<Sum>,
+}
+
+// Parts, and what they come to.
+#[derive(Drop)]
+pub struct Sum {
+    pub parts: Vec<Part>,
+    pub whole: u64,
+}
+
+// A part of a sum: whose it is, what it is, and its ticks.
+#[derive(Drop)]
+pub struct Part {
+    pub name: String,
+    pub words: String,
+    pub ticks: String,
+}
+
 // The explanation of an answer of a text under a method, from its lines, in words.
 pub fn explained(
     alloc: Global,
@@ -26,13 +48,31 @@ pub fn explained(
     method: u64,
     lines: &[u8],
 ) -> Result<String, AllocError> {
+    let Explanation { sentences, sum } = explanation_of(alloc, text, method, lines)?;
+    let mut words = sentences;
+    if let Some(sum) = &sum {
+        add_sum(alloc, &mut words, sum.parts.as_slice(), sum.whole)?;
+    }
+    Ok(words)
+}
+
+// The same in its parts.
+pub fn explanation_of(
+    alloc: Global,
+    text: &[u8],
+    method: u64,
+    lines: &[u8],
+) -> Result<Explanation, AllocError> {
     let mut table = Table::empty();
     // a text that is refused has no explanation, and so no lines
     let _ = table.read(text);
     let mut words = String::new(alloc);
     let mut lines = Lines::of(lines);
     let Some(first) = lines.next() else {
-        return Ok(words);
+        return Ok(Explanation {
+            sentences: words,
+            sum: None,
+        });
     };
     let head = Head::of(first);
     let mut above = Vec::new(alloc);
@@ -40,14 +80,20 @@ pub fn explained(
         above.push(Above::of(&table, line, head.explained))?;
     }
     head.open(alloc, &mut words, method)?;
-    if let Some(need) = head.need {
-        head.tell_blocking(alloc, &mut words)?;
-        for task in &above {
-            task.tell(alloc, &mut words)?;
-        }
-        sum(alloc, &mut words, head, above.as_slice(), need)?;
+    let Some(need) = head.need else {
+        return Ok(Explanation {
+            sentences: words,
+            sum: None,
+        });
+    };
+    head.tell_blocking(alloc, &mut words)?;
+    for task in &above {
+        task.tell(alloc, &mut words)?;
     }
-    Ok(words)
+    Ok(Explanation {
+        sentences: words,
+        sum: Some(sum_of(alloc, head, above.as_slice(), need)?),
+    })
 }
 
 fn field_of(line: &[u8], at: usize) -> &[u8] {
@@ -235,14 +281,6 @@ impl<'a> Above<'a> {
     }
 }
 
-// A part of the sum: whose it is, what it is, and its ticks.
-#[derive(Drop)]
-struct Part {
-    name: String,
-    words: String,
-    ticks: String,
-}
-
 fn make_part(alloc: Global, name: &[u8], words: String, ticks: u64) -> Result<Part, AllocError> {
     let (name, ticks) = (word(alloc, name)?, format!(in alloc; "{ticks}")?);
     Ok(Part { name, words, ticks })
@@ -295,7 +333,7 @@ fn add_many(text: &mut String, character: char, count: usize) -> Done {
 }
 
 // All parts of a need.
-fn sum(alloc: Global, text: &mut String, head: Head, above: &[Above], whole: u64) -> Done {
+fn sum_of(alloc: Global, head: Head, above: &[Above], whole: u64) -> Result<Sum, AllocError> {
     let mut parts = Vec::new(alloc);
     let own = String::from_str(alloc, "its own execution")?;
     parts.push(make_part(alloc, head.name, own, head.execution)?)?;
@@ -305,7 +343,7 @@ fn sum(alloc: Global, text: &mut String, head: Head, above: &[Above], whole: u64
         let product = task.product(alloc)?;
         parts.push(make_part(alloc, task.name, product, task.all())?)?;
     }
-    add_sum(alloc, text, parts.as_slice(), whole)
+    Ok(Sum { parts, whole })
 }
 
 // Parts one below the other, and what they come to, below an empty line.

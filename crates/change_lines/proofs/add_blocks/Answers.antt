@@ -1,5 +1,5 @@
 -- A field of useful blocks is short.
-use Rattle.std.proofs.Common.{◌≤◌, length, ap, arith}
+use Rattle.std.proofs.Common.{length, ap, arith}
 use Rattle.change_lines.proofs.Short.{useful-short}
 use Rattle.change_lines.proofs.add_blocks.Goals as goal
 

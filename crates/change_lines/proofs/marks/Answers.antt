@@ -1,6 +1,5 @@
 -- A field of marks is short.
-use Rattle.std.proofs.Common.{◌/◌, ◌≤◌, length, ap, arith}
-use Rattle.writing.specs.Marks.{marks_text}
+use Rattle.std.proofs.Common.{length, ap, arith}
 use Rattle.writing.proofs.Digits.{marks-long}
 use Rattle.change_lines.proofs.marks.Goals as goal
 

@@ -1,5 +1,4 @@
 // How far the work is, on standard error: a bar on a terminal, a line now and then elsewhere.
-use crate::files;
 use asked::arguments::{Arguments, Opt};
 use asked::ending::Stop;
 use refused::spelling;
@@ -138,7 +137,7 @@ pub fn take_jobs(rt: &HostRuntime, arguments: &Arguments, instead: &str) -> Resu
     arguments.number(Opt::Jobs, 1, JOBS_MOST, 1)?;
     if arguments.has(Opt::Jobs) {
         let message = format!(in rt.alloc(); "--jobs does nothing: {instead}")?;
-        files::tell(rt, message.as_str());
+        crate::tell(rt, message.as_str());
     }
     Ok(())
 }

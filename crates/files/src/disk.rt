@@ -1,7 +1,7 @@
 // Builds below a folder of the file system: found, read, and their reports written beside them.
 ghost use Rattle.std.specs.Prelude.{None};
 
-use crate::files::{self, Parts};
+use crate::Parts;
 use crate::progress::Progress;
 use asked::ending::Stop;
 use builds::{Build, Folder, Unread, Unwritten};
@@ -221,10 +221,27 @@ impl<'a> Disk<'a> {
         path.extend_from_slice(build.way.as_slice())?;
         Ok(path)
     }
+
+    // Puts a file beside a build's table: its name ends so in place of `table`.
+    pub fn put_beside(&mut self, build: &Build, end: &[u8], bytes: &[u8]) -> Result<(), Unwritten> {
+        let Ok(table) = self.table_of(build) else {
+            return Err(Unwritten);
+        };
+        let Ok(path) = beside(self.rt.alloc(), table.as_slice(), end) else {
+            return Err(Unwritten);
+        };
+        match put_file(self.rt, &mut self.parts, path.as_slice(), bytes) {
+            Ok(()) => Ok(()),
+            Err(error) => {
+                self.keep_failure(path.as_slice(), "written", error);
+                Err(Unwritten)
+            }
+        }
+    }
 }
 
 fn text_of(rt: &HostRuntime, path: &[u8], buf: &mut [u8]) -> io::Result<usize> {
-    let path = files::path_of(path)?;
+    let path = crate::path_of(path)?;
     // what is no plain file is not waited for: nobody might ever write into a pipe
     if !fs::metadata(rt, path)?.is_file() {
         return Err(io::Error::other("it is no plain file"));
@@ -232,16 +249,16 @@ fn text_of(rt: &HostRuntime, path: &[u8], buf: &mut [u8]) -> io::Result<usize> {
     read_input(&mut fs::open(rt, path)?, buf)
 }
 
-// The file beside a table that has its report.
-fn report_of(alloc: Global, table: &[u8]) -> Result<Vec<u8>, AllocError> {
+// The file beside a table whose name ends so in place of `table`.
+fn beside(alloc: Global, table: &[u8], end: &[u8]) -> Result<Vec<u8>, AllocError> {
     let name = table.strip_suffix(b"table".as_slice()).unwrap_or(table);
     let mut path = Vec::from_slice(alloc, name)?;
-    path.extend_from_slice(b"report")?;
+    path.extend_from_slice(end)?;
     Ok(path)
 }
 
-fn put_report(rt: &HostRuntime, parts: &mut Parts, path: &[u8], report: &[u8]) -> io::Result<()> {
-    parts.replace(rt, files::path_of(path)?, report)
+fn put_file(rt: &HostRuntime, parts: &mut Parts, path: &[u8], bytes: &[u8]) -> io::Result<()> {
+    parts.replace(rt, crate::path_of(path)?, bytes)
 }
 
 impl<'a> Folder for Disk<'a> {
@@ -261,19 +278,7 @@ impl<'a> Folder for Disk<'a> {
     }
 
     fn put(&mut self, build: &Build, report: &[u8]) -> Result<(), Unwritten> {
-        let Ok(table) = self.table_of(build) else {
-            return Err(Unwritten);
-        };
-        let Ok(path) = report_of(self.rt.alloc(), table.as_slice()) else {
-            return Err(Unwritten);
-        };
-        match put_report(self.rt, &mut self.parts, path.as_slice(), report) {
-            Ok(()) => Ok(()),
-            Err(error) => {
-                self.keep_failure(path.as_slice(), "written", error);
-                Err(Unwritten)
-            }
-        }
+        self.put_beside(build, b"report", report)
     }
 
     fn hear(&mut self, build: &Build, text: &[u8], fate: Fate) {

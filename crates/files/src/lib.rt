@@ -1,4 +1,11 @@
 // Where a table's text comes from, and where results go: standard input and output, or a file that is written aside and then renamed.
+#![tactic(auto)]
+
+// Builds below a folder of the file system.
+pub mod disk;
+// How far the work is.
+pub mod progress;
+
 use asked::arguments::{Arguments, Opt};
 use asked::ending::Stop;
 use refused::spelling;
@@ -43,6 +50,17 @@ pub fn named(file: Option<&[u8]>) -> Option<&[u8]> {
     match file {
         Some(name) if name != b"-".as_slice() => Some(name),
         _ => None,
+    }
+}
+
+// Whether a folder has this name.
+pub fn is_folder(rt: &HostRuntime, name: &[u8]) -> bool {
+    match (named(Some(name)), path_of(name)) {
+        (Some(_), Ok(path)) => match fs::metadata(rt, path) {
+            Ok(there) => there.is_dir(),
+            Err(_) => false,
+        },
+        _ => false,
     }
 }
 
