@@ -1,4 +1,4 @@
--- A table that some text gives is accepted. Assumes nothing.
+-- A table that some text gives is accepted.
 use Rattle.table.proofs.AcceptedLaws.{accepted-table}
 use Rattle.table_text.proofs.readable.accepted.Goals as goal
 

@@ -1,4 +1,4 @@
--- A table that is read is accepted. Assumes nothing.
+-- A table that is read is accepted.
 use Rattle.std.proofs.Common.{sym}
 use Rattle.table.proofs.AcceptedLaws.{accepted-table}
 use Rattle.table.proofs.accepted.Accepted.read.Goals as goal
