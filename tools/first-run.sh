@@ -15,9 +15,9 @@ logs=$root/target/log
 log=$logs/$called.log
 ours='' # the process that proves, while there is one
 
-# Says which proofs have begun since it last looked: rt tells of a crate as it starts the prover on it.
+# Says which proofs have begun since it last looked, by what prove.sh says.
 tell() {
-    opened=$(sed -n 's/^rt: chose --jobs [0-9]* for //p' "$log" | tr '\n' ' ')
+    opened=$(sed -n 's/^proving //p' "$log" | tr '\n' ' ')
     place=0
     for crate in $crates; do
         place=$((place + 1))
