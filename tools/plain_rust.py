@@ -4,12 +4,13 @@ taken out, and every type can be shown by `{:?}`. What comes out is proved by no
 of turns. As a module: `build(root, out, names, changes)`.
 
 What stands for a crate of the kit: `memchr` is a line below. A program's `main` gets a stand-in for Rattle's runtime, which has the three standard streams."""
+import glob
 import os
 import re
 import subprocess
 import sys
 
-# Vectors whose memory may run out: here it does not.
+# Vectors and texts whose memory may run out: here it does not.
 HEAP = """
 #[derive(Clone, Copy, Debug)]
 pub struct Global;
@@ -22,9 +23,30 @@ impl<T> Vec<T> {
     pub fn from_slice(_: Global, them: &[T]) -> Result<Self, AllocError> where T: Clone { Ok(Vec(them.to_vec())) }
     pub fn push(&mut self, it: T) -> Result<(), AllocError> { Ok(self.0.push(it)) }
     pub fn extend_from_slice(&mut self, them: &[T]) -> Result<(), AllocError> where T: Clone { Ok(self.0.extend_from_slice(them)) }
+    pub fn allocator(&self) -> &Global { &Global }
     pub fn as_slice(&self) -> &[T] { &self.0 }
     pub fn sort(&mut self) -> Result<(), AllocError> where T: Ord { Ok(self.0.sort()) }
     pub fn sort_by<F: FnMut(&T, &T) -> std::cmp::Ordering>(&mut self, by: F) -> Result<(), AllocError> { Ok(self.0.sort_by(by)) }
+}
+#[derive(Debug)]
+pub struct String(pub std::string::String);
+impl String {
+    pub fn new(_: Global) -> Self { String(std::string::String::new()) }
+    pub fn from_str(_: Global, it: &str) -> Result<Self, AllocError> { Ok(String(it.to_string())) }
+    pub fn from_utf8_lossy(_: Global, them: &[u8]) -> Result<Self, AllocError> { Ok(String(std::string::String::from_utf8_lossy(them).into_owned())) }
+    pub fn told(it: std::fmt::Arguments<'_>) -> Result<Self, AllocError> { Ok(String(it.to_string())) }
+    pub fn push(&mut self, it: char) -> Result<(), AllocError> { Ok(self.0.push(it)) }
+    pub fn push_str(&mut self, it: &str) -> Result<(), AllocError> { Ok(self.0.push_str(it)) }
+    pub fn write_fmt(&mut self, it: std::fmt::Arguments<'_>) -> Result<(), AllocError> { Ok(self.0.push_str(&it.to_string())) }
+    pub fn is_empty(&self) -> bool { self.0.is_empty() }
+    pub fn as_str(&self) -> &str { &self.0 }
+}
+impl std::fmt::Display for String {
+    fn fmt(&self, f: &mut std::fmt::Formatter<'_>) -> std::fmt::Result { f.write_str(&self.0) }
+}
+#[macro_export]
+macro_rules! told {
+    ($($it:tt)*) => { $crate::String::told(format_args!($($it)*)) };
 }
 impl From<AllocError> for std::io::Error {
     fn from(_: AllocError) -> Self { std::io::ErrorKind::OutOfMemory.into() }
@@ -51,6 +73,7 @@ impl HostRuntime {
 # What begins a line and is no part of the program: a clause, or a ghost item.
 GHOST = re.compile(r"^[ \t]*(?:pub )?(requires|ensures|ghost)\b", re.M)
 MODEL = re.compile(r"^impl[^\n{]*\bModel for[^{]*\{", re.M)
+TOLD = re.compile(r"\bformat!\(in [\w.()]+;")
 TACTIC = re.compile(r"[ \t]*#!?\[tactic\([^\]]*\)\]\n?")
 DERIVE = re.compile(r"[ \t]*#\[derive\(([^)]*)\)\]\n")
 TYPE = re.compile(r"^([ \t]*)((?:pub(?:\([a-z]+\))? )?(?:struct|enum) )", re.M)
@@ -87,7 +110,8 @@ def plain(text):
     while found := MODEL.search(text):
         text = text[: found.start()] + text[behind(text, found.start()) :]
     text = TACTIC.sub("", text).replace("use std::marker::Model;\n", "").replace("ErrorKind, Print, ", "ErrorKind, ")
-    text = text.replace(ALLOCATES, "use ::heap::{AllocError, Global, Vec};")
+    text = text.replace(ALLOCATES, "use ::heap::{AllocError, Global, String, Vec};").replace("use std::alloc::AllocError;", "use ::heap::{AllocError, Vec};")
+    text = TOLD.sub("::heap::told!(", text)
     return TYPE.sub(r"\1#[derive(Debug)] \2", DERIVE.sub(derived, text))
 
 
@@ -100,10 +124,11 @@ def crates(root):
             if colon:
                 uses[name.split()[0]] = used.split()
     for name in uses:
-        path = "%s/crates/%s/src/lib.rt" % (root, name)
-        if os.path.exists(path):
+        texts = []
+        for path in glob.glob("%s/crates/%s/src/**/*.rt" % (root, name), recursive=True):
             with open(path, encoding="utf-8") as it:
-                uses[name] += ["heap"] * (ALLOCATES in it.read())
+                texts.append(it.read())
+        uses[name] += ["heap"] * any(ALLOCATES in text for text in texts)
     return uses
 
 

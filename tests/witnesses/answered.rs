@@ -1,5 +1,5 @@
 // What `answered` writes and tells.
-use crate::{answer as answer_to, read_text, show, Answered, Question};
+use crate::{answer as answer_to, check, ending_checked, read_text, show, Answered, Question};
 use ::heap::Global;
 
 #[path = "common.rs"]
@@ -18,6 +18,14 @@ fn answer(name: &str, args: &mut Args) -> String {
         "show" => {
             let shown = show(Global, &bytes, args.number() == 1, &mut out);
             return told(shown.ok().unwrap(), &out);
+        }
+        "check" => {
+            let (list, method) = (args.bytes(), args.number());
+            return told(check(&bytes, &list, method, &mut out), &out);
+        }
+        "ending_checked" => {
+            let (list, method) = (args.bytes(), args.number());
+            return common::show(ending_checked(&bytes, &list, method));
         }
         "report" => Question::Report,
         "answer" => Question::Answer { method: args.number(), position: args.number() },

@@ -698,18 +698,34 @@ def of_answered():
     return found + ["read_text %s" % it for it in ('""', '"ab"', '"a"*16384', '"a"*16385', '"a"*20000')]
 
 
+def of_sentences():
+    some = [text(it) for it, _ in tables(7, 12)] + [text(it) for it in (THREE, THREE[:-1], "", many_tasks(8))]
+    found = ["explain %s %d %d" % (it, m, i) for it in some for m in range(7) for i in (0, 1, 2, 40)] + ["explained %s %d %d" % (text(THREE), m, i) for m in range(6) for i in range(3)]
+    return found + ['add_sum 3 "a" "1 x 3" 3', 'add_sum 12 "long_name" "" 5 "b" "7 x 1" 7', "add_sum 0"]
+
+
 def of_aligned():
     lines = [["1wtask", "1wlimit", *["1w" + it for it in ("none", "ecb-only", "ucb-only", "ucb-union", "ecb-union", "combined")]], ["0wa", "0n123456", "0n7", "3w-", "2wyes", "3wno", "0", "0n0"], ["0wmuch_longer", "0n0", *["0n99999999999"] * 6]]
     texts = [lines, lines[:1], lines[1:], lines[1:2], []]
     return ["aligned %d %s" % (colours, text("".join("\t".join(line) + "\n" for line in it))) for it in texts for colours in (0, 1)]
 
 
+# bytes of every kind: letters, what controls or is not seen, and what is no character
+SPELLED = [b"plain.table", b"", b"\\", b"a\\n", b"\n", b"\t", b"\x1b[1m", b"\x7f", b"\xff", b"\xc3\xa4", b"\xc2\x85", b"\xc2\xad", b"\xe2\x80\x8b", b"\xe2\x82\xac", b"\xed\xa0\x80", b"\xf0\x9f\x98\x80", b"\xf4\x90\x80\x80", b"\xc0\x80", b"\xe2\x82", b"[", b"\xf8\x90\x80\x80"]
+
+
+def of_spelling():
+    return ["%s %s" % (name, text(it)) for name in ("spelled_out", "cleaned", "is_clean") for it in SPELLED]
+
+
+def of_terminal():
+    return ["%s %s" % (name, text(it)) for name in ("print", "tell") for it in SPELLED]
+
+
 def of_lists():
     names = ["a", "b/c.table", "", "\\\\", "a\tb", "x"]
     fates = ["0", "1", "2 0", "2 17", "3 1 1 1 1 1 1", "3 0 1 0 1 0 1"]
     found = ["line %s %s" % (text(name), fate) for name in names[:3] for fate in fates]
-    spelled = [b"plain.table", b"", b"\\", b"a\\n", b"\n", b"\t", b"\x1b[1m", b"\x7f", b"\xff", b"\xc3\xa4", b"\xc2\x85", b"\xc2\xad", b"\xe2\x80\x8b", b"\xe2\x82\xac", b"\xed\xa0\x80", b"\xf0\x9f\x98\x80", b"\xf4\x90\x80\x80", b"\xc0\x80", b"\xe2\x82", b"[", b"\xf8\x90\x80\x80"]
-    found += ["spelled_out %s" % text(it) for it in spelled]
     lists = ["a\tV\tyes\nb\tE\t1\t0\n", "c\tF\tread\n", "", "b\tV\tno\na\tF\twrite\n"]
     return found + ["put_together " + " ".join(text(it) for it in some) for some in (lists, lists[::-1], lists[:1], lists[1:2], lists[3:])] + ["put_together"]
 
@@ -733,6 +749,23 @@ def of_changes():
 def of_shown():
     some = [text(it) for it, _ in tables(7, 20)] + [text(THREE), text(many_tasks(32)), '"a"', '""']
     return ["show %s %d" % (it, colours) for it in some for colours in (0, 1)] + ["no_memory"]
+
+
+def of_methods():
+    found = ["%s %d" % (name, n) for name, most in (("single_name", 5), ("method_name", 6), ("name_by_number", 8), ("colour_by_number", 8)) for n in range(most)]
+    return found + ["names"]
+
+
+def of_drawn():
+    found = ["put %s" % it for it in ('"a"', '"<"', '">"', '"&"', '"\\x01"', '"\\x7f"')] + ['new 8 93 "<a>"', 'raw "<a/>"']
+    return found + ['text "a" 12 -30 "<b>"', 'line "a" 12 -30 5 60', 'rectangle "a" 12 -30 5 60']
+
+
+def of_bars():
+    some = [text(it) for it, _ in tables(7, 12)] + [text(it) for it in (THREE, many_tasks(32), "a", "")]
+    names = ["a.table", "", "<a&b>", "".join(chr(97 + k % 26) for k in range(120))]
+    found = ["picture %s %s" % (text(name), it) for it in some for name in names[: 4 if it == text(THREE) else 1]] + ["no_memory"]
+    return found + ["top_of %d" % n for n in range(34)]
 
 
 # a task that is pre-empted while it holds a device: examples/preempted-blocker.table

@@ -2,10 +2,8 @@
 use crate as endings;
 use crate::Ending;
 use ::cache;
-use ::claims;
 use ::search;
 use cache::units::Ticks;
-use claims::finding::Finding;
 use search::demand::Response;
 
 #[path = "common.rs"]
@@ -35,11 +33,6 @@ fn answer(name: &str, args: &mut Args) -> String {
         "status" => show(ending(args).status()),
         "of_response" => show(endings::Ending::of_response(response(args.word()))),
         "of_responses" => show(Ending::of_responses(args.number() == 1)),
-        "of_finding" => show(Ending::of_finding(match args.number() {
-            0 => Finding::Bad,
-            1 => Finding::Open,
-            _ => Finding::Fine,
-        })),
         "worse" => show(ending(args).worse(ending(args))),
         _ => unknown(name),
     }

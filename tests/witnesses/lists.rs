@@ -1,5 +1,4 @@
 // What the public functions of `lists` answer.
-use crate::spelling::spelled_out;
 use crate::{line, put_together, Fate};
 use table::refusals::{Reason, Refusal};
 use ::heap::{Global, Vec as Room};
@@ -25,7 +24,6 @@ fn fate(args: &mut Args) -> Fate {
 fn answer(name: &str, args: &mut Args) -> String {
     match name {
         "line" => text(&line(Global, &args.bytes(), fate(args)).unwrap()),
-        "spelled_out" => text(&spelled_out(Global, &args.bytes()).unwrap()),
         "put_together" => {
             let mut lists = vec![];
             while !args.is_done() {

@@ -1,12 +1,14 @@
 -- What stands behind the first 16,385 bytes of a text changes nothing of what is written, and of how it ends.
-use Rattle.std.proofs.Common.{◌≡◌, ℕ, ◌<◌, List, Option, take, length, arith, refl, ap, subst, ◌∙◌, take_all, length-take-le}
+use Rattle.std.proofs.Common.{◌≡◌, ℕ, ◌<◌, List, Option, Result, take, length, arith, refl, ap, subst, ◌∙◌, take_all, length-take-le}
 use Rattle.std.proofs.Math.Decide.{dec_lt}
+use Rattle.table.specs.declared.refusals.Refusal.{Refusal}
+use Rattle.endings.specs.declared.Ending.{Ending}
 use Rattle.crpd.specs.Operations.{printed, answer_to, growth_to, scaled_to, edf_to, replay_to}
 use Rattle.streams.proofs.LongTexts.{too_long, read_front}
 use Rattle.answered.specs.declared.Question.{Question}
 use Rattle.answered.specs.declared.Question.TheVariants.{Report, Answer, Explain, Growth, Scaled, Edf, Replay}
 use Rattle.answered.specs.declared.Answered.{Answered}
-use Rattle.answered.specs.Answered.{bytes_for, ending_for, Writes, AnswersTo}
+use Rattle.answered.specs.Answered.{bytes_for, ending_for, bytes_checked, ending_checked, Writes, WritesAnswer, AnswersTo, ChecksTo}
 
 scaled_long : (m : ℕ) (text : List ℕ) → 16384 < length text → scaled_to (take 16385 text) m ≡ scaled_to text m
 unfolding scaled_to
@@ -59,9 +61,29 @@ ending_front (Scaled m) text = rw (scaled_front m text, growth_front m text) ref
 ending_front Edf text = rw (edf_front text) refl
 ending_front (Replay p) text = rw (replay_front p text) refl
 
+-- of a list that is checked
+bytes_checked_front : (list : List ℕ) (m : ℕ) (text : List ℕ) → bytes_checked (take 16385 text) list m ≡ bytes_checked text list m
+bytes_checked_front list m text = rw (read_front text) refl
+
+ending_checked_front : (list : List ℕ) (m : ℕ) (text : List ℕ) → ending_checked (take 16385 text) list m ≡ ending_checked text list m
+unfolding ending_checked
+ending_checked_front list m text = rw (read_front text) refl
+
+-- what is the same of the first bytes and of all of them
+module _ (bytes : List ℕ → List ℕ) (ending : List ℕ → Result Ending Refusal) (same-bytes : (text : List ℕ) → bytes (take 16385 text) ≡ bytes text) (same-ending : (text : List ℕ) → ending (take 16385 text) ≡ ending text) where
+  all_of_it : (front whole : List ℕ) (a b : Option (List ℕ)) (answered : Answered) → front ≡ take 16385 whole → WritesAnswer (bytes front) (ending front) a b answered
+      → WritesAnswer (bytes whole) (ending whole) a b answered
+  all_of_it front whole a b answered e d = record {
+    written = subst (λ bs. Writes bs a b answered.written) (ap bytes e ∙ same-bytes whole) d.written;
+    ending-is = d.ending-is ∙ ap ending e ∙ same-ending whole;
+  }
+
 pub answers_whole : (question : Question) (text bytes : List ℕ) (a b : Option (List ℕ)) (answered : Answered) → text ≡ take 16385 bytes → AnswersTo question text a b answered
     → AnswersTo question bytes a b answered
-answers_whole question text bytes a b answered front d = record {
-  written = subst (λ bs. Writes bs a b answered.written) (ap (bytes_for question) front ∙ bytes_front question bytes) d.written;
-  ending-is = d.ending-is ∙ ap (ending_for question) front ∙ ending_front question bytes;
-}
+answers_whole question text bytes a b answered front d =
+    all_of_it (bytes_for question) (ending_for question) (bytes_front question) (ending_front question) text bytes a b answered front d
+
+pub checks_whole : (text list bytes : List ℕ) (m : ℕ) (a b : Option (List ℕ)) (answered : Answered) → text ≡ take 16385 bytes → ChecksTo text list m a b answered
+    → ChecksTo bytes list m a b answered
+checks_whole text list bytes m a b answered front d =
+    all_of_it (λ t. bytes_checked t list m) (λ t. ending_checked t list m) (bytes_checked_front list m) (ending_checked_front list m) text bytes a b answered front d

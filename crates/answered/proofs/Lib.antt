@@ -1,2 +1,5 @@
 pub mod Lines
 pub mod Fronts
+pub mod Claims
+pub mod Plain
+pub mod PlainTexts

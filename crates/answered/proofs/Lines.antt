@@ -22,9 +22,8 @@ use Rattle.analysis.specs.Analysis.{response_of}
 use Rattle.report.specs.Verdicts.{every_verdict}
 use Rattle.shown.specs.Shown.{shown_to}
 use Rattle.answered.specs.declared.Answered.{Answered}
-use Rattle.answered.specs.declared.Question.{Question}
 use Rattle.answered.specs.declared.Question.TheVariants.{Report}
-use Rattle.answered.specs.Answered.{unless_refused, bytes_for, ending_for, Writes, AnswersTo, ShowsTo}
+use Rattle.answered.specs.Answered.{unless_refused, ending_for, Writes, WritesAnswer, ShowsTo}
 
 -- a number of 64 bits has at most 20 digits
 pub number_fits : (n : ℕ) → n < 2 ^ 64 → length (spelled n) ≤ 20
@@ -119,10 +118,10 @@ wrote bytes a b (Ok done) whole part = whole
 wrote bytes a b (Err e) whole part = part
 
 -- what stands at the start of a buffer
-pub answers : (question : Question) (text before after : List ℕ) (end : ℕ) (a b : Option (List ℕ)) (answered : Answered) → PutsText (bytes_for question text) before end after
-    → Writes (take end after) a b answered.written → answered.ending ≡ ending_for question text → AnswersTo question text a b answered
-answers question text before after end a b answered put wrote ends = record {
-  written = subst (λ bytes. Writes bytes a b answered.written) (put_start (bytes_for question text) before after end put) wrote;
+pub answers : (bytes before after : List ℕ) (ending : Result Ending Refusal) (end : ℕ) (a b : Option (List ℕ)) (answered : Answered) → PutsText bytes before end after
+    → Writes (take end after) a b answered.written → answered.ending ≡ ending → WritesAnswer bytes ending a b answered
+answers bytes before after ending end a b answered put wrote ends = record {
+  written = subst (λ bytes. Writes bytes a b answered.written) (put_start bytes before after end put) wrote;
   ending-is = ends;
 }
 

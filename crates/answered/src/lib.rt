@@ -2,6 +2,8 @@
 #![tactic(auto)]
 
 ghost use Rattle.std.specs.Prelude.{◌≡◌, ◌+◌, List, ℕ, take, Ok, IfOk, nat_le, is_some};
+ghost use Rattle.std.specs.Bool.{OnFalse};
+ghost use Rattle.std.specs.List.{AllPass};
 ghost use Rattle.std.specs.Io.KnownBytes.{Consumes};
 ghost use Rattle.table.specs.declared.TheConstants.Table.{LONGEST_TEXT};
 ghost use Rattle.table.specs.Reading.{then_read, read_text};
@@ -9,9 +11,12 @@ ghost use Rattle.writing.specs.Text.{spelled};
 ghost use Rattle.writing.specs.Delivery.{PutsText};
 ghost use Rattle.analysis.specs.Verdict.{has_response};
 ghost use Rattle.endings.specs.Endings.{ending_of};
-ghost use Rattle.answered.specs.Answered.{as_line, told_response, told_end, told_yes, bytes_for, is_yes, ending_for, AnswersTo, ShowsTo, IsReadOf};
+ghost use Rattle.answered.specs.Answered.{as_line, told_response, told_end, told_yes, is_plain_byte, bytes_for, bytes_shown, is_yes, ending_for, bytes_checked, is_bad, has_bad_claim, ending_checked, AnswersTo, ChecksTo, ShowsTo, IsReadOf};
 
+use analysis::Method;
 use cache::units::Ticks;
+use claims::finding::{Finding, judge};
+use claims::list;
 use crpd::Outcome;
 use edf::Verdict;
 use endings::Ending;
@@ -21,7 +26,8 @@ use std::alloc::{AllocError, Global};
 use std::io::{self, Read, Write};
 use streams::{read_input, write_output};
 use table::Table;
-use table::refusals::Refusal;
+use table::accepted::Accepted;
+use table::refusals::{Reason, Refusal};
 use writing::delivery;
 use writing::writer::{Draft, ROOM};
 
@@ -282,6 +288,57 @@ fn put_for(question: Question, text: &[u8], out: &mut [u8; Table::LONGEST_TEXT])
     }
 }
 
+fn is_bad(finding: Finding) -> bool
+    ensures { result ≡ is_bad finding }
+{
+    match finding {
+        Finding::Bad => true,
+        Finding::Open | Finding::Fine => false,
+    }
+}
+
+// Whether what is claimed of some task is bad.
+fn has_bad_claim(accepted: Accepted, method: Method, claims: &[Response; Table::MOST_TASKS]) -> bool
+    ensures { result ≡ has_bad_claim accepted.entry.table.now method (take accepted.entry.table.now.count claims.now) }
+{
+    for i in 0..accepted.table.count {
+        if is_bad(judge(accepted.pending(i), method, claims[i])) {
+            return true;
+        }
+    }
+    false
+}
+
+// How it ends where a partner's list is checked: a bad claim is as a response that is missing.
+#[tactic(auto, unfolding(crate::specs::Answered::ending_checked), using(std::proofs::lemmas::Result::err_from_is_err_and))]
+pub fn ending_checked(text: &[u8], list: &[u8], method: u64) -> Result<Ending, Refusal>
+    ensures { result ≡ ending_checked text.now list.now method }
+{
+    let method = Method::from_number(method).ok_or(Refusal::untold(Reason::Method))?;
+    let mut table = Table::empty();
+    let accepted = Accepted::read(text, &mut table)?;
+    let claims = list::read(accepted, list)?;
+    Ok(Ending::of_responses(!has_bad_claim(accepted, method, &claims)))
+}
+
+// What is found of each claim of a list.
+#[tactic(auto, unfolding(crate::specs::Answered::ending_checked), using(crate::proofs::Lines::text_put, crate::proofs::Lines::refusal_put))]
+fn put_findings(text: &[u8], list: &[u8], method: u64, out: &mut [u8; Table::LONGEST_TEXT]) -> Made
+    ensures bytes { PutsText (bytes_checked text.now list.now method) out.old result.len out.new }
+    ensures ending { result.ending ≡ ending_checked text.now list.now method }
+{
+    match crpd::check(text, list, method, out) {
+        Ok(len) => Made {
+            len,
+            ending: ending_checked(text, list, method),
+        },
+        Err(refusal) => Made {
+            len: 0,
+            ending: Err(refusal),
+        },
+    }
+}
+
 // What became of a question: how the command ends, unless the text is refused; and whether all was written.
 #[derive(Drop)]
 pub struct Answered {
@@ -291,13 +348,30 @@ pub struct Answered {
 
 // Writes the answer to a question about a text, and nothing else. The ending is that of the text, whatever becomes of the writing. Where the text is what was read of
 // more bytes, it is the answer to all of them.
-#[tactic(auto, using(crate::proofs::Lines::answers, crate::proofs::Fronts::answers_whole))]
+#[tactic(auto, using(crate::proofs::Lines::answers, crate::proofs::PlainTexts::answer_passes))]
 pub fn answer<W: Write>(question: Question, text: &[u8], writer: &mut W) -> Answered
     ensures answers { AnswersTo question text.now (W.contents writer.old) (W.contents writer.new) result }
     ensures whole { (bytes : List ℕ) → text.now ≡ take (LONGEST_TEXT + 1) bytes → AnswersTo question bytes (W.contents writer.old) (W.contents writer.new) result }
+    ensures plain { AllPass is_plain_byte (bytes_for question text.now) }
 {
     let mut out = [0u8; Table::LONGEST_TEXT];
     let made = put_for(question, text, &mut out);
+    Answered {
+        ending: made.ending,
+        written: write_output(writer, &out[..made.len]),
+    }
+}
+
+// Writes what is found of each claim of a partner's list, and nothing else; it ends as `ending_checked` says. Where the text of the table is what was read of more
+// bytes, it is checked by all of them.
+#[tactic(auto, using(crate::proofs::Lines::answers))]
+pub fn check<W: Write>(text: &[u8], list: &[u8], method: u64, writer: &mut W) -> Answered
+    ensures checks { ChecksTo text.now list.now method (W.contents writer.old) (W.contents writer.new) result }
+    ensures whole { (bytes : List ℕ) → text.now ≡ take (LONGEST_TEXT + 1) bytes → ChecksTo bytes list.now method (W.contents writer.old) (W.contents writer.new) result }
+    ensures plain { AllPass is_plain_byte (bytes_checked text.now list.now method) }
+{
+    let mut out = [0u8; Table::LONGEST_TEXT];
+    let made = put_findings(text, list, method, &mut out);
     Answered {
         ending: made.ending,
         written: write_output(writer, &out[..made.len]),
@@ -311,7 +385,8 @@ pub fn show<W: Write>(
     colours: bool,
     writer: &mut W,
 ) -> Result<Answered, AllocError>
-    ensures { IfOk result (λ answered. ShowsTo colours text.now (W.contents writer.old) (W.contents writer.new) answered) }
+    ensures shows { IfOk result (λ answered. ShowsTo colours text.now (W.contents writer.old) (W.contents writer.new) answered) }
+    ensures plain { OnFalse colours (AllPass is_plain_byte (bytes_shown colours text.now)) }
 {
     match shown::show(alloc, text, colours) {
         Ok(shown) => Ok(Answered {

@@ -1,7 +1,6 @@
 // The words of a command line, sorted into options and others.
 use crate::ending::Stop;
-use drawn::methods;
-use refused::spelling;
+use refused::wording;
 use std::alloc::Global;
 use table::fields::is_name;
 
@@ -166,7 +165,7 @@ impl Arguments {
         let dashed = word.starts_with(b"-".as_slice()) && word != b"-".as_slice();
         let is_task = task == Some(self.operands.len()) && is_name(word);
         if dashed && !is_task {
-            let word = spelling::word(alloc, word)?;
+            let word = wording::word(alloc, word)?;
             let message = format!(in alloc;
                 "there is no option {word}; a name that starts with - goes after --"
             )?;
@@ -179,7 +178,7 @@ impl Arguments {
     fn fits(&self, form: Form) -> Result<(), Stop> {
         let alloc = self.alloc;
         if let Some(surplus) = self.operands.get(form.most) {
-            let word = spelling::word(alloc, surplus.as_slice())?;
+            let word = wording::word(alloc, surplus.as_slice())?;
             return Err(Stop::wrong_use(format!(in alloc; "{word} is one argument too many")?));
         }
         if self.operands.len() < form.least {
@@ -229,10 +228,10 @@ impl Arguments {
         }
         let alloc = self.alloc;
         let (least, most) = (
-            spelling::number(alloc, least)?,
-            spelling::number(alloc, most)?,
+            wording::number(alloc, least)?,
+            wording::number(alloc, most)?,
         );
-        let (option, value) = (option.long(), spelling::word(alloc, value)?);
+        let (option, value) = (option.long(), wording::word(alloc, value)?);
         Err(Stop::wrong_use(format!(in alloc;
             "{option} is a number from {least} to {most}, and not {value}"
         )?))
@@ -245,7 +244,7 @@ impl Arguments {
             return Ok(number);
         }
         let alloc = self.alloc;
-        let word = spelling::word(alloc, word)?;
+        let word = wording::word(alloc, word)?;
         Err(Stop::wrong_use(format!(in alloc;
             "there is no method {word}: it is 0 to 5, or none, ecb-only, ucb-only, ucb-union, ecb-union, combined (12)"
         )?))
@@ -260,7 +259,7 @@ impl Arguments {
             return Ok(part);
         }
         let alloc = self.alloc;
-        let value = spelling::word(alloc, value)?;
+        let value = wording::word(alloc, value)?;
         Err(Stop::wrong_use(format!(in alloc; "--part is K/N, from 1/N to N/N, and not {value}")?))
     }
 
@@ -272,7 +271,7 @@ impl Arguments {
         };
         if position.is_empty() || !position.iter().all(|byte| byte.is_ascii_digit()) {
             let alloc = self.alloc;
-            let word = spelling::word(alloc, word)?;
+            let word = wording::word(alloc, word)?;
             return Err(Stop::wrong_use(format!(in alloc;
                 "{word} is no position: one is written as #0, #1 and so on"
             )?));
@@ -318,7 +317,7 @@ fn part_of(written: &[u8]) -> Option<(u64, u64)> {
 
 // The method that is written as its number or its name.
 fn method_of(written: &[u8]) -> Option<u64> {
-    for (name, number) in methods::NAMES.iter().zip(0u64..) {
+    for (name, number) in methods::names().iter().zip(0u64..) {
         if written == name.as_bytes() {
             return Some(number);
         }

@@ -1,7 +1,7 @@
 // How a command ends, and what standard error is told.
 
 pub use endings::Ending;
-use refused::spelling;
+use refused::wording;
 use std::alloc::{AllocError, AllocFailed, Global};
 use std::fmt::Write;
 use std::io;
@@ -55,8 +55,8 @@ fn failure(alloc: Global, name: &str, doing: &str, error: io::Error) -> Result<S
 fn reason(alloc: Global, error: io::Error) -> Result<String, AllocError> {
     let words = format!(in alloc; "{error}")?;
     match words.as_str().split_once(" (os error") {
-        Some((reason, _)) => spelling::spelled_out(alloc, reason.as_bytes()),
-        None => spelling::spelled_out(alloc, words.as_str().as_bytes()),
+        Some((reason, _)) => wording::line(alloc, reason.as_bytes()),
+        None => wording::line(alloc, words.as_str().as_bytes()),
     }
 }
 

@@ -5,7 +5,7 @@ use Rattle.std.proofs.lemmas.List.{map-append, take_more, get_or-map, length-map
 use Rattle.std.proofs.lemmas.List.Sorted.{IsPermutation-map}
 use Rattle.lists.specs.declared.Fate.{Fate}
 use Rattle.lists.specs.Lists.{list_line}
-use Rattle.lists.specs.Spelling.{spelled_out}
+use Rattle.spelling.specs.Spelling.{spelled_out}
 use Rattle.lists.specs.Together.{texts_of, together}
 use Rattle.lists.proofs.Lists.{together-permutation}
 use Rattle.builds.specs.declared.Build.{Build}

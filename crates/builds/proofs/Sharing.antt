@@ -5,7 +5,7 @@ use Rattle.std.proofs.Math.Nat.{mod_self}
 use Rattle.std.proofs.lemmas.List.{map-append}
 use Rattle.std.proofs.lemmas.List.Sorted.{IsPermutation-refl, IsPermutation-sym, IsPermutation-trans, IsPermutation-cons, IsPermutation-middle, IsPermutation-append_right, IsPermutation-map}
 use Rattle.lists.specs.Lists.{list_line}
-use Rattle.lists.specs.Spelling.{spelled_out}
+use Rattle.spelling.specs.Spelling.{spelled_out}
 use Rattle.lists.specs.Together.{together}
 use Rattle.lists.proofs.Lists.{together-parts}
 use Rattle.builds.specs.Runs.{in_part, part_from, part_of, numbers_to, SharedOut}

@@ -2,7 +2,7 @@
 use Rattle.std.specs.Prelude.{ℕ, zero, suc, ◌≡◌, ◌+◌, ◌%◌, flat_map, Bool, List, [], ◌∷◌, ◌++◌, map, length, Option, Some, IfSome, IsPermutation, ◌==◌, if◌then◌else◌}
 use Rattle.lists.specs.declared.Fate.{Fate}
 use Rattle.lists.specs.Lists.{list_line}
-use Rattle.lists.specs.Spelling.{spelled_out}
+use Rattle.spelling.specs.Spelling.{spelled_out}
 use Rattle.lists.specs.Together.{together}
 use Rattle.builds.specs.Folders.{Held, with_reports, fate_told, reports_told}
 

@@ -5,14 +5,14 @@ ghost use Rattle.std.specs.Prelude.{◌≡◌, ℕ, List, [], ◌++◌, ◌≤�
 ghost use Rattle.writing.specs.Delivery.{PutsText};
 ghost use Rattle.writing.specs.Error.{error_text};
 ghost use Rattle.crpd.specs.Operations.{report_in, printed};
-ghost use Rattle.lists.specs.Spelling.{spelled_out};
+ghost use Rattle.spelling.specs.Spelling.{spelled_out};
 ghost use Rattle.lists.specs.Together.{ascending};
 ghost use Rattle.builds.specs.Fates.{judged, fate_of};
 ghost use Rattle.builds.specs.Folders.{Held, HasText, HasNoText, Gains, TakesNone, ReportsBuild};
 ghost use Rattle.builds.specs.Runs.{in_part, part_of, WritesReports, SharedOut};
 
 use analysis::rows;
-use lists::{Fate, spelling};
+use lists::Fate;
 use report::verdicts;
 use std::alloc::{AllocError, Global};
 use table::Table;

@@ -8,7 +8,6 @@ use cache::sets::CacheSet;
 use cache::useful::{Form, Useful};
 use changes::figures::Value;
 use changes::{Comparison, FateChange, FigureChange, Line, ResponseChange, VerdictChange};
-use drawn::methods;
 use lists::Fate;
 use search::demand::Response;
 use std::alloc::{AllocError, Global};
@@ -69,10 +68,7 @@ fn add_response(line: &mut Vec<u8>, response: Response) -> Done {
 }
 
 fn add_method(line: &mut Vec<u8>, method: usize) -> Done {
-    add_field(
-        line,
-        methods::NAMES.get(method).copied().unwrap_or("").as_bytes(),
-    )
+    add_field(line, methods::name_by_number(method).as_bytes())
 }
 
 fn add_verdict(line: &mut Vec<u8>, verdict: bool) -> Done {

@@ -2,15 +2,14 @@
 use answered::{Answered, Question};
 use asked::arguments::{Arguments, Asked, Opt};
 use asked::ending::{Ending, Outcome, Stop};
-use drawn::bars::{self, Undrawn};
-use files::{Input, deliver, print, progress};
-use refused::spelling;
+use bars::Undrawn;
+use files::{Input, deliver, progress};
+use refused::wording;
 use std::alloc::{AllocError, Global};
 use std::fmt::Write as _;
 use std::io::IsTerminal;
 use table::Table;
 use table::refusals::Refusal;
-use writing::writer::ROOM;
 
 pub fn refused_stop(alloc: Global, input: &Input, refusal: Refusal) -> Stop {
     match refused::told(alloc, input.name.as_str(), input.text.as_slice(), refusal) {
@@ -113,7 +112,7 @@ fn named(alloc: Global, input: &Input, table: &Table, word: &[u8]) -> Result<u64
             return Ok(position);
         }
     }
-    let (name, word) = (input.name.as_str(), spelling::word(alloc, word)?);
+    let (name, word) = (input.name.as_str(), wording::word(alloc, word)?);
     Err(Stop::wrong_use(format!(in alloc; "{name}: there is no task {word} (13)")?))
 }
 
@@ -129,7 +128,7 @@ fn counted(
         return Ok(position);
     }
     let name = input.name.as_str();
-    let (word, last) = (spelling::word(alloc, written)?, count.saturating_sub(1));
+    let (word, last) = (wording::word(alloc, written)?, count.saturating_sub(1));
     Err(Stop::wrong_use(format!(in alloc;
         "{name}: there is no task {word}: the positions are 0 to {last} (13)"
     )?))
@@ -154,18 +153,9 @@ pub fn explain(rt: &HostRuntime, arguments: &Arguments) -> Outcome {
 }
 
 fn explain_in_words(rt: &HostRuntime, input: &Input, method: u64, position: u64) -> Outcome {
-    let text = input.text.as_slice();
-    let mut out = [0u8; ROOM];
-    let lines = match crpd::explain(text, method, position, &mut out) {
-        Ok(end) => out.get(..end).unwrap_or(&[]),
-        Err(refusal) => return Err(refused_stop(rt.alloc(), input, refusal)),
-    };
-    let words = worded::explained(rt.alloc(), text, method, lines)?;
-    print(rt, words.as_str().as_bytes())?;
-    match crpd::answer(text, method, position) {
-        Ok(response) => Ok(Ending::of_response(response)),
-        Err(refusal) => Err(refused_stop(rt.alloc(), input, refusal)),
-    }
+    let (alloc, text) = (rt.alloc(), input.text.as_slice());
+    let answered = sentences::explain(alloc, text, method, position, &mut rt.stdout())?;
+    ended(rt, input, answered)
 }
 
 pub fn growth(rt: &HostRuntime, arguments: &Arguments) -> Outcome {

@@ -7,7 +7,7 @@ use changes::{Comparison, Source};
 use files::disk::{Disk, Found};
 use files::progress::Progress;
 use files::{Input, Parts, print, tell};
-use lists::{Fate, spelling};
+use lists::Fate;
 use std::alloc::{AllocError, Global};
 use table::Table;
 use table::refusals::Refusal;

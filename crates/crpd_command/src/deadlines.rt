@@ -29,7 +29,7 @@ fn in_words(rt: &HostRuntime, input: &Input) -> Outcome {
     match Accepted::read(text, &mut table) {
         Ok(accepted) => {
             let words = overrun::told(alloc, accepted)?;
-            print(rt, words.as_str().as_bytes())?;
+            print(rt, words.as_slice())?;
             Ok(Ending::of_responses(is_in_time))
         }
         Err(refusal) => Err(refused_stop(alloc, input, refusal)),

@@ -16,7 +16,7 @@ mod version;
 use crate::commands::Command;
 use asked::arguments;
 use asked::ending::{Ending, Outcome, Stop};
-use refused::spelling;
+use refused::wording;
 use std::alloc::{AllocError, Global};
 use std::env::FillError;
 use std::fmt::Write as _;
@@ -122,7 +122,7 @@ fn taught(alloc: Global, command: Command, stop: Stop) -> Stop {
 }
 
 fn no_command(alloc: Global, name: &[u8]) -> Stop {
-    match spelling::word(alloc, name) {
+    match wording::word(alloc, name) {
         Ok(name) => match format!(in alloc;
             "there is no command {name}; crpd help lists those that there are"
         ) {

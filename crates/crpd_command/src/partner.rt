@@ -1,18 +1,14 @@
 // A partner's list of claimed responses, and what is found of it.
 use crate::answers::refused_stop;
-use analysis::Method;
 use asked::arguments::{Arguments, Opt};
-use asked::ending::{Ending, Outcome, Stop};
-use claims::finding::judge;
+use asked::ending::{Outcome, Stop};
 use claims::list;
-use files::{Input, print};
-use search::demand::Response;
+use files::{Input, is_written, print};
 use std::alloc::Global;
 use table::Table;
 use table::accepted::Accepted;
 use table::refusals::{Reason, Refusal};
 use worded::claimed;
-use writing::writer::ROOM;
 
 // Why nothing is told of a list: the table is refused, or the list itself.
 fn list_stop(alloc: Global, input: &Input, list: &Input, table: &Table, refusal: Refusal) -> Stop {
@@ -24,18 +20,6 @@ fn list_stop(alloc: Global, input: &Input, list: &Input, table: &Table, refusal:
         Ok(message) => Stop::refused(message),
         Err(error) => Stop::from(error),
     }
-}
-
-// How it ends: as the worst claim does.
-fn ending(accepted: Accepted, method: u64, claims: &[Response]) -> Ending {
-    let mut ending = Ending::Given;
-    if let Some(method) = Method::from_number(method) {
-        for i in 0..accepted.table.count {
-            let claim = claims.get(i).copied().unwrap_or(Response::Unschedulable);
-            ending = ending.worse(Ending::of_finding(judge(accepted.pending(i), method, claim)));
-        }
-    }
-    ending
 }
 
 pub fn check(rt: &HostRuntime, arguments: &Arguments) -> Outcome {
@@ -57,15 +41,17 @@ pub fn check(rt: &HostRuntime, arguments: &Arguments) -> Outcome {
         Ok(claims) => claims,
         Err(refusal) => return Err(list_stop(alloc, &input, &list, accepted.table, refusal)),
     };
-    if arguments.has(Opt::Words) {
+    let ending = if arguments.has(Opt::Words) {
         let words = claimed::told(alloc, accepted, method, claims.as_slice())?;
         print(rt, words.as_str().as_bytes())?;
+        answered::ending_checked(text, listed, method)
     } else {
-        let mut out = [0u8; ROOM];
-        match crpd::check(text, listed, method, &mut out) {
-            Ok(end) => print(rt, out.get(..end).unwrap_or(&[]))?,
-            Err(refusal) => return Err(list_stop(alloc, &input, &list, accepted.table, refusal)),
-        }
+        let answered = answered::check(text, listed, method, &mut rt.stdout());
+        is_written(alloc, answered.written)?;
+        answered.ending
+    };
+    match ending {
+        Ok(ending) => Ok(ending),
+        Err(refusal) => Err(list_stop(alloc, &input, &list, accepted.table, refusal)),
     }
-    Ok(ending(accepted, method, claims.as_slice()))
 }

@@ -7,7 +7,7 @@ use files::disk::{Disk, Found};
 use files::progress::{self, Progress};
 use files::{Parts, deliver, tell};
 use lists::Fate;
-use refused::spelling;
+use refused::wording;
 use std::alloc::{AllocError, Global};
 use std::fmt::Write as _;
 use table::text::{Fields, Lines};
@@ -128,16 +128,16 @@ impl Tally {
 
     fn summary(self, alloc: Global, millis: u64, unread: u64) -> Result<String, AllocError> {
         let (all, rate) = (
-            spelling::number(alloc, self.all())?,
-            spelling::number(alloc, progress::rate(self.all(), millis))?,
+            wording::number(alloc, self.all())?,
+            wording::number(alloc, progress::rate(self.all(), millis))?,
         );
         let (pass, fail) = (
-            spelling::number(alloc, self.pass)?,
-            spelling::number(alloc, self.fail)?,
+            wording::number(alloc, self.pass)?,
+            wording::number(alloc, self.fail)?,
         );
         let (refused, lost) = (
-            spelling::number(alloc, self.refused)?,
-            spelling::number(alloc, self.lost)?,
+            wording::number(alloc, self.refused)?,
+            wording::number(alloc, self.lost)?,
         );
         let what = if self.all() == 1 { "build" } else { "builds" };
         let tenths = millis / 100;
@@ -146,7 +146,7 @@ impl Tally {
             "{all} {what} in {seconds}.{tenth} s, {rate} a second: {pass} pass under every method, {fail} do not, {refused} are refused, {lost} could not be read or written"
         )?;
         if unread > 0 {
-            let folders = spelling::counted(alloc, unread, "folder")?;
+            let folders = wording::counted(alloc, unread, "folder")?;
             write!(text, "; {folders} could not be read")?;
         }
         Ok(text)

@@ -79,7 +79,7 @@ fn page_of(
     subject.tell_head(&mut page, accepted.table)?;
     subject.tell_table(&mut page)?;
     subject.tell_report(&mut page, accepted.table, rows)?;
-    subject.tell_tasks(&mut page, accepted.table, rows)?;
+    subject.tell_tasks(&mut page, accepted, rows)?;
     subject.tell_growths(&mut page)?;
     subject.tell_equations(&mut page, accepted.table)?;
     subject.tell_proved(&mut page)?;

@@ -4,19 +4,19 @@ use crate::markup::{
     row_head, words_cell,
 };
 use crate::{Proved, words};
+use analysis::Method;
 use analysis::rows::Row;
+use bars::Undrawn;
 use cache::useful::Form;
-use drawn::bars::{self, Undrawn};
-use drawn::methods;
-use refused::spelling;
+use refused::wording;
 use search::demand::Response;
+use sentences::sums::Sum;
 use std::alloc::{AllocError, Global};
 use std::fmt::Write;
 use table::Table;
+use table::accepted::{Accepted, Pending};
 use table::tasks::Task;
 use table::text::Lines;
-use worded::{Explanation, Sum};
-use writing::writer::ROOM;
 
 // What the page is of.
 #[derive(Clone, Copy)]
@@ -35,7 +35,7 @@ const COMBINED: usize = 5;
 const FEW_DIGITS: usize = 12;
 
 // The sum of a task that has fewer above it is not torn where a sheet of paper ends.
-const FEW_TASKS: u64 = 16;
+const FEW_TASKS: usize = 16;
 
 // How a picture that stands for itself begins, and how one within a page does.
 const ALONE: &str = "<svg xmlns=\"http://www.w3.org/2000/svg\"";
@@ -52,7 +52,7 @@ impl<'a> Subject<'a> {
     // The title, what the table is about, and what came of it.
     pub fn tell_head(&self, page: &mut String, table: &Table) -> Done {
         page.push_str("<header>\n<h1>Worst-case response times</h1>\n")?;
-        let tasks = spelling::counted(self.alloc, table.tasks().len() as u64, "task")?;
+        let tasks = wording::counted(self.alloc, table.tasks().len() as u64, "task")?;
         let outcome = if self.verdicts[COMBINED] {
             "every task has a response"
         } else {
@@ -74,7 +74,7 @@ impl<'a> Subject<'a> {
         if let Form::Digits(ways) = table.form {
             self.term(page, "Ways", format!(in self.alloc; "{ways}")?.as_str())?;
         }
-        let reload = spelling::counted(self.alloc, table.brt.0, "tick")?;
+        let reload = wording::counted(self.alloc, table.brt.0, "tick")?;
         self.term(page, "Reload of a block", reload.as_str())?;
         let accesses = table.access_count;
         if 0 < accesses {
@@ -97,7 +97,7 @@ impl<'a> Subject<'a> {
     // The methods under which every task has a response, or those under which some has none, where there are any.
     fn tell_methods(&self, page: &mut String, term: &str, pass: bool) -> Done {
         let mut names = String::new(self.alloc);
-        for (name, passes) in methods::NAMES.iter().zip(self.verdicts.iter()) {
+        for (name, passes) in methods::names().iter().zip(self.verdicts.iter()) {
             if *passes == pass {
                 if !names.is_empty() {
                     names.push_str(", ")?;
@@ -139,7 +139,7 @@ impl<'a> Subject<'a> {
         page.push_str("<table class=\"figures\">\n<thead>\n<tr>\n")?;
         column_head(page, "task")?;
         column_head(page, "limit")?;
-        for name in methods::NAMES.iter() {
+        for name in methods::names().iter() {
             column_head(page, name)?;
         }
         page.push_str("</tr>\n</thead>\n<tbody>\n")?;
@@ -222,43 +222,55 @@ impl<'a> Subject<'a> {
     }
 
     // Of each task why its combined figure is what it is, and what it needs under the methods that leave it none.
-    pub fn tell_tasks(&self, page: &mut String, table: &Table, rows: &[Row]) -> Done {
+    pub fn tell_tasks(&self, page: &mut String, accepted: Accepted, rows: &[Row]) -> Done {
         page.push_str("<section>\n")?;
         heading(page, "3 Each task under combined")?;
-        for ((task, row), position) in table.tasks().iter().zip(rows.iter()).zip(0u64..) {
+        for position in 0..accepted.table.count {
             if position < FEW_TASKS {
                 page.push_str("<article class=\"short\">\n")?;
             } else {
                 page.push_str("<article>\n")?;
             }
-            element(page, "h3", "h3", name_of(self.alloc, task)?.as_str())?;
-            let Explanation { sentences, sum } = self.explained(COMBINED, position)?;
-            let sentences = sentences.as_str();
-            let (first, others) = match sentences.split_once('\n') {
-                Some((first, others)) => (first, others),
-                None => (sentences, ""),
-            };
-            element(page, "p class=\"answer\"", "p", first)?;
+            let pending = accepted.pending(position);
+            element(
+                page,
+                "h3",
+                "h3",
+                name_of(self.alloc, pending.task())?.as_str(),
+            )?;
+            let explanation = sentences::explained(self.alloc, pending, Method::Combined)?;
+            let (first, others) = self.parted(explanation.sentences.as_slice())?;
+            element(page, "p class=\"answer\"", "p", first.as_str())?;
             if !others.is_empty() {
-                paragraph(page, others)?;
+                paragraph(page, others.as_str())?;
             }
-            if let Some(sum) = &sum {
+            if let Some(sum) = &explanation.sum {
                 self.tell_sum(page, sum)?;
             }
-            self.tell_needs(page, row, position)?;
+            if let Some(row) = rows.get(position) {
+                self.tell_needs(page, pending, row)?;
+            }
             page.push_str("</article>\n")?;
         }
         page.push_str("</section>\n")
     }
 
-    // The explanation of a task's answer under a method.
-    fn explained(&self, method: usize, position: u64) -> Result<Explanation, AllocError> {
-        let mut out = [0u8; ROOM];
-        let method = method as u64;
-        // the text is accepted, the method and the position are there, and there is room
-        let end = crpd::explain(self.text, method, position, &mut out).unwrap_or(0);
-        let lines = out.get(..end).unwrap_or(&[]);
-        worded::explanation_of(self.alloc, self.text, method, lines)
+    // Bytes as a text.
+    fn text(&self, bytes: &[u8]) -> Result<String, AllocError> {
+        String::from_utf8_lossy(self.alloc, bytes)
+    }
+
+    // The first of some sentences, and those behind it.
+    fn parted(&self, sentences: &[u8]) -> Result<(String, String), AllocError> {
+        let text = self.text(sentences)?;
+        let told = text.as_str();
+        let (first, others) = match told.split_once('\n') {
+            Some((first, others)) => (first, others),
+            None => (told, ""),
+        };
+        let first = String::from_str(self.alloc, first)?;
+        let others = String::from_str(self.alloc, others)?;
+        Ok((first, others))
     }
 
     fn tell_sum(&self, page: &mut String, sum: &Sum) -> Done {
@@ -269,9 +281,13 @@ impl<'a> Subject<'a> {
         page.push_str("</tr>\n</thead>\n<tbody>\n")?;
         for part in &sum.parts {
             page.push_str("<tr>\n")?;
-            row_head(page, part.name.as_str())?;
-            words_cell(page, self.with_signs(part.words.as_str())?.as_str())?;
-            figure_cell(page, part.ticks.as_str())?;
+            let (name, words) = (
+                self.text(part.name.as_slice())?,
+                self.text(part.words.as_slice())?,
+            );
+            row_head(page, name.as_str())?;
+            words_cell(page, self.with_signs(words.as_str())?.as_str())?;
+            figure_cell(page, self.number(part.ticks)?.as_str())?;
             page.push_str("</tr>\n")?;
         }
         page.push_str("</tbody>\n<tfoot>\n<tr>\n<th scope=\"row\" colspan=\"2\">together</th>\n")?;
@@ -292,23 +308,22 @@ impl<'a> Subject<'a> {
     }
 
     // What the task needs under each other method that leaves it no response.
-    fn tell_needs(&self, page: &mut String, row: &Row, position: u64) -> Done {
+    fn tell_needs(&self, page: &mut String, pending: Pending, row: &Row) -> Done {
         let mut is_open = false;
         for (method, response) in row.responses.iter().enumerate() {
-            if method == COMBINED || matches!(response, Response::Within(_)) {
+            let Some(method) = Method::from_number(method as u64) else {
+                continue;
+            };
+            if matches!(method, Method::Combined) || matches!(response, Response::Within(_)) {
                 continue;
             }
             if !is_open {
                 page.push_str("<ul>\n")?;
                 is_open = true;
             }
-            let Explanation { sentences, sum: _ } = self.explained(method, position)?;
-            let sentences = sentences.as_str();
-            let first = match sentences.split_once('\n') {
-                Some((first, _)) => first,
-                None => sentences,
-            };
-            element(page, "li", "li", first)?;
+            let explanation = sentences::explained(self.alloc, pending, method)?;
+            let (first, _) = self.parted(explanation.sentences.as_slice())?;
+            element(page, "li", "li", first.as_str())?;
         }
         if is_open {
             page.push_str("</ul>\n")?;
@@ -329,7 +344,7 @@ impl<'a> Subject<'a> {
         element(page, "th scope=\"col\" class=\"n\"", "th", "growth")?;
         column_head(page, "which says")?;
         page.push_str("</tr>\n</thead>\n<tbody>\n")?;
-        for (name, method) in methods::NAMES.iter().zip(0u64..) {
+        for (name, method) in methods::names().iter().zip(0u64..) {
             // the text is accepted, and the method is there
             let growth = crpd::growth(self.text, method).unwrap_or(0);
             page.push_str("<tr>\n")?;
@@ -355,7 +370,7 @@ impl<'a> Subject<'a> {
         column_head(page, "equation")?;
         column_head(page, "block reloads of an activation")?;
         page.push_str("</tr>\n</thead>\n<tbody>\n")?;
-        for (name, (number, charge)) in methods::NAMES.iter().zip(words::CHARGES.iter()) {
+        for (name, (number, charge)) in methods::names().iter().zip(words::CHARGES.iter()) {
             page.push_str("<tr>\n")?;
             row_head(page, name)?;
             words_cell(page, number)?;

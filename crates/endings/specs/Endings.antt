@@ -1,7 +1,5 @@
 -- How a command ends, by what it found.
 use Rattle.std.specs.Prelude.{ℕ, Bool, true, false, nat_lt, if◌then◌else◌}
-use Rattle.claims.specs.declared.finding.Finding.{Finding}
-use Rattle.claims.specs.declared.finding.Finding.TheVariants.{Bad, Open, Fine}
 use Rattle.endings.specs.declared.Ending.{Ending}
 use Rattle.endings.specs.declared.Ending.TheVariants.{Given, NoResponse, Refused, WrongUse, Failed}
 
@@ -17,12 +15,6 @@ status_of Failed = 4
 abbrev pub ending_of : Bool → Ending
 ending_of true = Given
 ending_of false = NoResponse
-
--- where a claim is judged
-abbrev pub ending_found : Finding → Ending
-ending_found Bad = NoResponse
-ending_found Open = Given
-ending_found Fine = Given
 
 -- the worse of two: that of the higher status
 abbrev pub worse_of : Ending → Ending → Ending

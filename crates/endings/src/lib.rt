@@ -3,9 +3,8 @@
 
 ghost use Rattle.std.specs.Prelude.{◌≡◌};
 ghost use Rattle.analysis.specs.Verdict.{has_response};
-ghost use Rattle.endings.specs.Endings.{status_of, ending_of, ending_found, worse_of};
+ghost use Rattle.endings.specs.Endings.{status_of, ending_of, worse_of};
 
-use claims::finding::Finding;
 use search::demand::Response;
 
 // What was given, with the exit status that it has.
@@ -44,16 +43,6 @@ impl Ending {
             Ending::Given
         } else {
             Ending::NoResponse
-        }
-    }
-
-    // How it ends where a claim is judged: a bad one is as a response that is missing.
-    pub fn of_finding(finding: Finding) -> Ending
-        ensures { result ≡ ending_found finding }
-    {
-        match finding {
-            Finding::Bad => Ending::NoResponse,
-            Finding::Open | Finding::Fine => Ending::Given,
         }
     }
 

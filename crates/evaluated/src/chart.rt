@@ -4,9 +4,8 @@
 use crate::figures::{Digits, decimal};
 use crate::task_sets::CONFIGURATION;
 use crate::{PAPER_BREAKDOWN, Results, utilisation};
-use drawn::methods;
 use drawn::svg::{Picture, Place, Tenths};
-use refused::spelling;
+use refused::wording;
 use std::alloc::{AllocError, Global};
 use std::fmt::Write;
 use std::num::{nearest_i64_to_f64, saturating_f64_to_i64};
@@ -179,7 +178,7 @@ fn heading(alloc: Global, picture: &mut Picture, results: &Results) -> Done {
     let words = format!(in alloc; "Base configuration: {CONFIGURATION}")?;
     picture.text(Place::new(LEFT, 530), style.as_str(), words.as_str())?;
     let (sets, seed) = (
-        spelling::number(alloc, results.setting.sets)?,
+        wording::number(alloc, results.setting.sets)?,
         results.setting.seed,
     );
     let words = format!(in alloc; "Random task sets at each utilisation: {sets}; seed {seed}")?;
@@ -296,7 +295,7 @@ fn legend(
 
 impl Look {
     fn colour(self) -> &'static str {
-        methods::COLOURS.get(self.method).copied().unwrap_or("")
+        methods::colour_by_number(self.method)
     }
 
     fn stroke(self, alloc: Global) -> Result<String, AllocError> {

@@ -2,8 +2,7 @@
 
 use crate::task_sets::CONFIGURATION;
 use crate::{PAPER_BREAKDOWN, Results, Scores, utilisation};
-use drawn::methods;
-use refused::spelling;
+use refused::wording;
 use std::alloc::{AllocError, Global};
 use std::fmt::Write;
 
@@ -34,7 +33,7 @@ pub fn figures(alloc: Global, results: &Results) -> Result<String, AllocError> {
 
 fn heading(alloc: Global, text: &mut String, results: &Results) -> Done {
     let (sets, seed) = (
-        spelling::number(alloc, results.setting.sets)?,
+        wording::number(alloc, results.setting.sets)?,
         results.setting.seed,
     );
     text.push_str(
@@ -88,7 +87,7 @@ fn column(text: &mut String, words: &str, name: &str) -> Done {
 
 fn headings(text: &mut String, start: &str) -> Done {
     first(text, start)?;
-    for name in methods::NAMES {
+    for name in methods::names() {
         column(text, name, name)?;
     }
     text.push('\n')
@@ -97,7 +96,7 @@ fn headings(text: &mut String, start: &str) -> Done {
 // A line with a name and a column for each method.
 fn row(alloc: Global, text: &mut String, start: &str, scores: &Scores, digits: Digits) -> Done {
     first(text, start)?;
-    for (score, name) in scores.iter().zip(methods::NAMES.iter()) {
+    for (score, name) in scores.iter().zip(methods::names().iter()) {
         let figure = decimal(alloc, *score, digits)?;
         column(text, figure.as_str(), name)?;
     }

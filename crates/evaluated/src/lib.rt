@@ -17,7 +17,6 @@ mod task_sets;
 use crate::random::Random;
 use crate::task_sets::TaskSet;
 use analysis::rows::{self, Row};
-use drawn::methods;
 use search::demand::Response;
 use std::alloc::{AllocError, Global};
 use std::num::nearest_u64_to_f64;

@@ -6,7 +6,7 @@ use crate::progress::Progress;
 use asked::ending::Stop;
 use builds::{Build, Folder, Unread, Unwritten};
 use lists::Fate;
-use refused::spelling;
+use refused::wording;
 use std::alloc::{AllocError, Global};
 use std::fmt::Write as _;
 use std::fs;
@@ -73,7 +73,7 @@ impl Found {
                     found.sort_in(rt, parts, &folder, names.as_slice(), &mut waiting)?;
                 }
                 Err(error) => {
-                    let name = spelling::word(alloc, folder.path.as_str().as_bytes())?;
+                    let name = wording::word(alloc, folder.path.as_str().as_bytes())?;
                     let stop = Stop::failed(alloc, name.as_str(), "read", error);
                     if turn == 0 {
                         return Err(stop);
@@ -156,7 +156,7 @@ impl Found {
             path.push(b'/')?;
         }
         path.extend_from_slice(name)?;
-        let name = spelling::word(alloc, path.as_slice())?;
+        let name = wording::word(alloc, path.as_slice())?;
         self.tell(Stop::failed(
             alloc,
             name.as_str(),
@@ -206,7 +206,7 @@ impl<'a> Disk<'a> {
     // Keeps it that a file could not be `read`, or `written`.
     fn keep_failure(&mut self, path: &[u8], doing: &str, error: io::Error) {
         let alloc = self.rt.alloc();
-        if let Ok(name) = spelling::word(alloc, path) {
+        if let Ok(name) = wording::word(alloc, path) {
             let message = Stop::failed(alloc, name.as_str(), doing, error).message;
             self.keep(message);
         }
@@ -288,7 +288,7 @@ impl<'a> Folder for Disk<'a> {
             let Ok(path) = self.table_of(build) else {
                 return;
             };
-            let Ok(name) = spelling::word(alloc, path.as_slice()) else {
+            let Ok(name) = wording::word(alloc, path.as_slice()) else {
                 return;
             };
             self.keep(refused::told(alloc, name.as_str(), text, refusal).ok());

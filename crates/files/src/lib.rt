@@ -8,13 +8,12 @@ pub mod progress;
 
 use asked::arguments::{Arguments, Opt};
 use asked::ending::Stop;
-use refused::spelling;
+use refused::wording;
 use std::alloc::{AllocError, Global};
 use std::fmt::Write as _;
 use std::fs::{self, Metadata, OpenOptions, Permissions};
 use std::io::{self, ErrorKind, Read, Write};
 use std::os::unix::fs::MetadataExt;
-use streams::write_output;
 
 // A text, and the name under which people are told of it.
 #[derive(Drop)]
@@ -39,7 +38,7 @@ pub fn path_of_folder(alloc: Global, name: &[u8]) -> Result<String, Stop> {
     match path_of(name) {
         Ok(path) => Ok(String::from_str(alloc, path)?),
         Err(error) => {
-            let name = spelling::word(alloc, name)?;
+            let name = wording::word(alloc, name)?;
             Err(Stop::failed(alloc, name.as_str(), "read", error))
         }
     }
@@ -72,7 +71,7 @@ fn of_file(rt: &HostRuntime, name: &[u8]) -> io::Result<Vec<u8>> {
 pub fn read(rt: &HostRuntime, file: Option<&[u8]>) -> Result<Input, Stop> {
     let alloc = rt.alloc();
     let (name, text) = match named(file) {
-        Some(path) => (spelling::word(alloc, path)?, of_file(rt, path)),
+        Some(path) => (wording::word(alloc, path)?, of_file(rt, path)),
         None => (
             String::from_str(alloc, "standard input")?,
             answered::read_text(alloc, &mut rt.stdin()),
@@ -98,7 +97,7 @@ fn whole_input(rt: &HostRuntime) -> io::Result<Vec<u8>> {
 pub fn whole(rt: &HostRuntime, file: &[u8]) -> Result<Input, Stop> {
     let alloc = rt.alloc();
     let (name, text) = match named(Some(file)) {
-        Some(path) => (spelling::word(alloc, path)?, whole_file(rt, path)),
+        Some(path) => (wording::word(alloc, path)?, whole_file(rt, path)),
         None => (String::from_str(alloc, "standard input")?, whole_input(rt)),
     };
     match text {
@@ -155,7 +154,7 @@ pub fn output<'a>(rt: &HostRuntime, arguments: &'a Arguments) -> Result<&'a [u8]
             .iter()
             .any(|step| is_of_kind(step.as_str(), kind))
         {
-            let name = spelling::word(alloc, name)?;
+            let name = wording::word(alloc, name)?;
             return Err(Stop::wrong_use(format!(in alloc;
                 "{name} is the name of a {kind}, and would be written over"
             )?));
@@ -175,14 +174,13 @@ pub fn is_written(alloc: Global, written: io::Result<()>) -> Result<(), Stop> {
 
 // Writes to standard output.
 pub fn print(rt: &HostRuntime, text: &[u8]) -> Result<(), Stop> {
-    is_written(rt.alloc(), write_output(&mut rt.stdout(), text))
+    let alloc = rt.alloc();
+    is_written(alloc, terminal::print(alloc, text, &mut rt.stdout()))
 }
 
 // Says something on standard error. That nobody can be told is no reason to stop.
 pub fn tell(rt: &HostRuntime, message: &str) {
-    if let Ok(line) = format!(in rt.alloc(); "crpd: {message}\n") {
-        let _ = rt.stderr().write_all(line.as_str().as_bytes());
-    }
+    let _ = terminal::tell(rt.alloc(), message.as_bytes(), &mut rt.stderr());
 }
 
 fn is_same(one: &Metadata, other: &Metadata) -> bool {
@@ -387,7 +385,7 @@ pub fn deliver(rt: &HostRuntime, name: &[u8], text: &[u8]) -> Result<(), Stop> {
         return print(rt, text);
     }
     let alloc = rt.alloc();
-    let shown = spelling::word(alloc, name)?;
+    let shown = wording::word(alloc, name)?;
     let path = match path_of(name) {
         Ok(path) => path,
         Err(error) => return Err(Stop::failed(alloc, shown.as_str(), "written", error)),

@@ -1,7 +1,7 @@
 // How far the work is, on standard error: a bar on a terminal, a line now and then elsewhere.
 use asked::arguments::{Arguments, Opt};
 use asked::ending::Stop;
-use refused::spelling;
+use refused::wording;
 use std::alloc::AllocError;
 use std::fmt::Write as _;
 use std::io::{IsTerminal, Write};
@@ -63,12 +63,12 @@ impl Progress {
     fn tell(&mut self, rt: &HostRuntime) -> Result<(), AllocError> {
         let alloc = rt.alloc();
         let (so_far, all) = (
-            spelling::number(alloc, self.done)?,
-            spelling::number(alloc, self.count)?,
+            wording::number(alloc, self.done)?,
+            wording::number(alloc, self.count)?,
         );
         let (left, rate) = (
-            spelling::number(alloc, self.count.saturating_sub(self.done))?,
-            spelling::number(alloc, rate(self.done, self.took(rt)))?,
+            wording::number(alloc, self.count.saturating_sub(self.done))?,
+            wording::number(alloc, rate(self.done, self.took(rt)))?,
         );
         let what = self.what;
         let line = if self.lively {

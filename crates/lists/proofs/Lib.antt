@@ -1,5 +1,3 @@
-mod Apart
 mod Lines
 pub mod Lists
 pub mod Orders
-mod Seen

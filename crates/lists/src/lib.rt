@@ -1,9 +1,6 @@
 // The list of builds: what became of each, one line for each; and lists put together.
 #![tactic(auto)]
 
-// Names as one field of a line, that a terminal may show.
-pub mod spelling;
-
 ghost use Rattle.std.specs.Prelude.{◌≡◌, ℕ, ◌+◌, ◌≤◌, List, [], ◌∷◌, ◌++◌, length, map, flat_map, IsPermutation, IfOk, OnOk};
 ghost use Rattle.writing.specs.declared.writer.TheConstants.{ROOM};
 ghost use Rattle.table.specs.Cut.{lines};

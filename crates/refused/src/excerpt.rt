@@ -1,6 +1,6 @@
 // A line of a text as a terminal may show it, with a mark below.
-use crate::spelling;
 use std::alloc::{AllocError, Global};
+use std::fmt::Write;
 
 // A part of a line, from a byte to another.
 #[derive(Clone, Copy)]
@@ -55,7 +55,7 @@ fn put(out: &mut String, byte: u8) -> Result<(), AllocError> {
     if is_plain(byte) || byte == b'\t' {
         return out.push(char::from(byte));
     }
-    spelling::put_hex(out, byte)
+    write!(out, "\\x{byte:02x}")
 }
 
 fn is_plain(byte: u8) -> bool {

@@ -3,7 +3,7 @@
 
 use crate::excerpt::Part;
 use crate::forms::{self, Field, Kind, LineKind};
-use crate::spelling;
+use crate::wording;
 use cache::units::Ticks;
 use replay::LONGEST_REPLAY;
 use std::alloc::{AllocError, Global};
@@ -67,17 +67,17 @@ impl Finding {
     pub fn of(alloc: Global, text: &[u8], refusal: Refusal) -> Found {
         match refusal.reason {
             Reason::TooLong => {
-                let most = spelling::number(alloc, Table::LONGEST_TEXT as u64)?;
+                let most = wording::number(alloc, Table::LONGEST_TEXT as u64)?;
                 Ok(nowhere(format!(in alloc; "the text is longer than {most} bytes")?))
             }
             Reason::NotEnded => not_ended(alloc, text),
             Reason::NoTask => told_nowhere(alloc, "there is no task line"),
             Reason::LongDeadline => {
-                let most = spelling::number(alloc, LONGEST_REPLAY)?;
+                let most = wording::number(alloc, LONGEST_REPLAY)?;
                 Ok(nowhere(format!(in alloc; "the deadline of the task is above {most} ticks")?))
             }
             Reason::LongHyperperiod => {
-                let most = spelling::number(alloc, Ticks::LONGEST)?;
+                let most = wording::number(alloc, Ticks::LONGEST)?;
                 Ok(nowhere(format!(in alloc;
                     "the least common multiple of the periods is above {most} ticks"
                 )?))
@@ -264,7 +264,7 @@ fn wrong_shape(alloc: Global, told: Told) -> Words {
         };
         return String::from_str(alloc, words);
     }
-    let found = spelling::number(alloc, fields_in(told.line) as u64)?;
+    let found = wording::number(alloc, fields_in(told.line) as u64)?;
     let (letter, wanted) = (kind.letter(), wanted_fields(alloc, kind)?);
     format!(in alloc; "a line {letter} has {wanted} fields, and this one {found}")
 }
@@ -318,8 +318,8 @@ fn outside(alloc: Global, told: Told) -> Words {
 
 fn out_of_range(alloc: Global, told: Told, least: u64, most: u64) -> Words {
     let (low, high) = (
-        spelling::number(alloc, least)?,
-        spelling::number(alloc, most)?,
+        wording::number(alloc, least)?,
+        wording::number(alloc, most)?,
     );
     let fault = format!(in alloc; "is not in the range from {low} to {high}")?;
     faulty(alloc, told, fault.as_str())
@@ -329,12 +329,12 @@ fn wrong_marks(alloc: Global, told: Told) -> Words {
     let cache = Cache::of(told.text);
     match (told.field().kind, cache.ways) {
         (Kind::Useful, Some(_)) => {
-            let digits = spelling::counted(alloc, cache.sets, "digit")?;
+            let digits = wording::counted(alloc, cache.sets, "digit")?;
             let fault = format!(in alloc; "are not {digits} of 0-9, one for each cache set")?;
             faulty(alloc, told, fault.as_str())
         }
         _ => {
-            let digits = spelling::counted(alloc, cache.sets / forms::SETS_STEP, "digit")?;
+            let digits = wording::counted(alloc, cache.sets / forms::SETS_STEP, "digit")?;
             let fault = format!(in alloc; "are not {digits} of 0-9 and a-f")?;
             faulty(alloc, told, fault.as_str())
         }
@@ -342,7 +342,7 @@ fn wrong_marks(alloc: Global, told: Told) -> Words {
 }
 
 fn too_many_blocks(alloc: Global, told: Told) -> Words {
-    let ways = spelling::counted(alloc, Cache::of(told.text).ways.unwrap_or(0), "way")?;
+    let ways = wording::counted(alloc, Cache::of(told.text).ways.unwrap_or(0), "way")?;
     let fault = format!(in alloc; "have a count above the {ways} of a cache set")?;
     faulty(alloc, told, fault.as_str())
 }

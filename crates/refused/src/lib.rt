@@ -10,8 +10,8 @@ mod finding;
 mod forms;
 // What is wrong in a partner's list.
 mod listed;
-// Names and numbers as people see them.
-pub mod spelling;
+// Words and numbers as people see them.
+pub mod wording;
 
 use crate::finding::Finding;
 use std::alloc::{AllocError, Global};

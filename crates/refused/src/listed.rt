@@ -2,7 +2,7 @@
 
 use crate::excerpt::Part;
 use crate::finding::{Found, from_field, nth_line, place_of, told_at, told_nowhere};
-use crate::spelling;
+use crate::wording;
 use std::alloc::Global;
 use std::fmt::Write;
 use table::Table;
@@ -56,11 +56,11 @@ fn wrong_line(alloc: Global, line: &[u8], field: Option<usize>) -> Found {
 fn wrong_name(alloc: Global, table: &Table, line: &[u8], refusal: Refusal) -> Found {
     let at = usize::try_from(refusal.line).unwrap_or(0).saturating_sub(1);
     let Some(task) = table.tasks().get(at) else {
-        let tasks = spelling::counted(alloc, table.tasks().len() as u64, "task")?;
+        let tasks = wording::counted(alloc, table.tasks().len() as u64, "task")?;
         let words = format!(in alloc; "the line is one too many, for the table has {tasks}")?;
         return told_at(alloc, words.as_str(), place_of(line, 0));
     };
-    let name = spelling::word(alloc, task.name.text())?;
+    let name = wording::word(alloc, task.name.text())?;
     let Some(field) = refusal.field else {
         let words = format!(in alloc; "the line of {name} is missing")?;
         return told_nowhere(alloc, words.as_str());

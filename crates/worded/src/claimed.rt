@@ -3,7 +3,7 @@
 use crate::{Done, name_of, ticks, word};
 use analysis::Method;
 use claims::finding::{Finding, judge};
-use refused::spelling;
+use refused::wording;
 use search::demand::Response;
 use std::alloc::{AllocError, Global};
 use std::fmt::Write;
@@ -117,10 +117,10 @@ fn beside(alloc: Global, time: u64, ours: Response) -> Result<String, AllocError
     }
     let told = ticks(alloc, response)?;
     if response < time {
-        let lower = spelling::number(alloc, time.saturating_sub(response))?;
+        let lower = wording::number(alloc, time.saturating_sub(response))?;
         format!(in alloc; "our response is {told}, {lower} lower")
     } else {
-        let above = spelling::number(alloc, response.saturating_sub(time))?;
+        let above = wording::number(alloc, response.saturating_sub(time))?;
         format!(in alloc; "our response is {told}, {above} above")
     }
 }

@@ -5,9 +5,8 @@ use crate::{Done, ticks};
 use changes::figures::{Column, Value};
 use changes::harder::Relation;
 use changes::{Comparison, FateChange, FigureChange, Line, ResponseChange};
-use drawn::methods;
 use lists::Fate;
-use refused::spelling;
+use refused::wording;
 use search::demand::Response;
 use std::alloc::{AllocError, Global};
 
@@ -81,7 +80,7 @@ fn add_methods(text: &mut Vec<u8>, which: [bool; methods::COUNT]) -> Done {
         return add(text, "every method");
     }
     let mut is_first = true;
-    for (name, is_one) in methods::NAMES.iter().zip(which.iter()) {
+    for (name, is_one) in methods::names().iter().zip(which.iter()) {
         if *is_one {
             if !is_first {
                 add(text, ", ")?;
@@ -122,9 +121,9 @@ impl Counts {
     // The last line.
     pub fn add_line(&self, text: &mut Vec<u8>) -> Done {
         let alloc = *text.allocator();
-        let builds = spelling::number(alloc, self.builds)?;
-        let changed = spelling::number(alloc, self.changed)?;
-        let turned = spelling::number(alloc, self.turned)?;
+        let builds = wording::number(alloc, self.builds)?;
+        let changed = wording::number(alloc, self.changed)?;
+        let turned = wording::number(alloc, self.turned)?;
         let what = if self.builds == 1 { "build" } else { "builds" };
         let line = format!(in alloc; "{builds} {what}: {changed} changed, {turned} turned\n")?;
         add(text, line.as_str())
@@ -257,10 +256,7 @@ fn add_response(alloc: Global, text: &mut Vec<u8>, response: ResponseChange) -> 
     add(text, "  ")?;
     text.extend_from_slice(response.task.text())?;
     add(text, " under ")?;
-    add(
-        text,
-        methods::NAMES.get(response.method).copied().unwrap_or(""),
-    )?;
+    add(text, methods::name_by_number(response.method))?;
     add(text, ": ")?;
     let words = difference(alloc, response.old, response.new)?;
     add(text, words.as_str())?;

@@ -3,23 +3,23 @@
 ghost use Rattle.std.specs.Prelude.{◌≤◌, All, IfSome};
 ghost use Rattle.edf.specs.Bound.{Timed};
 
-use crate::{Part, add_sum, make_part, ticks};
+use crate::ticks;
 use cache::units::Ticks;
 use edf::charges::{self, ChargedTask};
-use refused::spelling;
+use refused::wording;
+use sentences::sums::{Part, add_sum};
 use std::alloc::{AllocError, Global};
-use std::fmt::Write;
 use table::accepted::Accepted;
 
 // Whether the tasks of a table are schedulable by earliest deadline first, and if not, when it is seen first. The table has no jitter and no access, and its
 // periods a common multiple.
-pub fn told(alloc: Global, accepted: Accepted) -> Result<String, AllocError> {
+pub fn told(alloc: Global, accepted: Accepted) -> Result<Vec<u8>, AllocError> {
     let charged = charges::charged_tasks(accepted);
     let tasks = &charged[..accepted.table.count];
     let Some(x) = first_overrun(tasks) else {
-        return String::from_str(
+        return Vec::from_slice(
             alloc,
-            "Yes: at no time is more asked for than there is by the jobs that are released and due by then.\n",
+            b"Yes: at no time is more asked for than there is by the jobs that are released and due by then.\n",
         );
     };
     let asked = asked_by(alloc, tasks, x)?;
@@ -29,13 +29,12 @@ pub fn told(alloc: Global, accepted: Accepted) -> Result<String, AllocError> {
         whole = whole.saturating_add(asked.all());
         parts.push(asked.part(alloc, task.name.text())?)?;
     }
-    let mut words = String::new(alloc);
     let (time, need) = (ticks(alloc, x.0)?, ticks(alloc, whole)?);
-    write!(
-        words,
+    let line = format!(in alloc;
         "No: the jobs that are released and due within {time} ask for {need}. Within no shorter time is more asked for than there is.\n"
     )?;
-    add_sum(alloc, &mut words, parts.as_slice(), whole)?;
+    let mut words = Vec::from_slice(alloc, line.as_str().as_bytes())?;
+    add_sum(&mut words, parts.as_slice(), whole)?;
     Ok(words)
 }
 
@@ -76,8 +75,12 @@ impl Asked {
     }
 
     fn part(self, alloc: Global, name: &[u8]) -> Result<Part, AllocError> {
-        let (jobs, time) = (spelling::counted(alloc, self.jobs, "job")?, self.time);
+        let (jobs, time) = (wording::counted(alloc, self.jobs, "job")?, self.time);
         let words = format!(in alloc; "{jobs} x {time}")?;
-        make_part(alloc, name, words, self.all())
+        Ok(Part {
+            name: Vec::from_slice(alloc, name)?,
+            words: Vec::from_slice(alloc, words.as_str().as_bytes())?,
+            ticks: self.all(),
+        })
     }
 }

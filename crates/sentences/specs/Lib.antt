@@ -1,0 +1,4 @@
+pub mod Phrases
+pub mod Sentences
+pub mod Sums
+pub mod Explained

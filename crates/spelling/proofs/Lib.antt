@@ -1,0 +1,6 @@
+mod Apart
+mod Bytes
+pub mod Clean
+pub mod Plain
+mod Seen
+mod Steps
