@@ -137,7 +137,6 @@ def pairs(change):
 def each_kind():
     """Each column, tasks that come, go and change places, accesses that come and go."""
     changes = {
-        "cache sets": lambda it: ["K 16 10", *(line.replace(" 0 0 ", " 0 0 00", 1).replace(" 0 0 00", " 0 0 00") for line in it[1:])],
         "BRT": lambda it: ["K 8 11", *it[1:]],
         "C": lambda it: [*it[:2], it[2].replace("b 100", "b 101"), *it[3:]],
         "T": lambda it: [*it[:2], it[2].replace("500 500", "600 500"), *it[3:]],
@@ -157,7 +156,6 @@ def each_kind():
         "two accesses": lambda it: [*it, "A b a 3 00"],
         "refused": lambda it: [*it[:2], it[2].replace("500 500", "50 500"), *it[3:]],
     }
-    del changes["cache sets"]
     for what, change in changes.items():
         old, new = pairs(change)
         ended = as_expected(old, new)
@@ -279,7 +277,7 @@ def tables():
         same("to standard input", run("changes", old, "-", text=other), Ended(told(b"-"), b"", 1))
         same("a table and itself", run("changes", old, old), Ended(b"", b"", 0))
         ended = run("changes", old, "-", text=b"K\n")
-        same("refused now", (ended.out.splitlines()[1], ended.status), (b"-\tnow\tE\t4\t1" if b"E\t4\t1" in printed(b"K\n") else b"-\tnow\t" + printed(b"K\n").strip(), 1))
+        same("refused now", (ended.out.splitlines()[1], ended.status), (b"-\tnow\t" + printed(b"K\n").strip(), 1))
         must(ended.err.startswith(b"crpd: standard input: line 1: "), "it is not told: %r", ended.err)
         ended = run("changes", "-", old, text=b"K\n")
         same("no longer refused", (ended.err, ended.status, ended.out.splitlines()[1]), (b"", 1, spelled(os.fsencode(old)) + b"\tnow\t" + printed(OLD).splitlines()[-1]))

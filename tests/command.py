@@ -5,7 +5,7 @@ small disk, and Debian for a program that draws pictures. tests/cases/ has the c
 `N passed, M failed`."""
 import sys
 
-from cases import about, arguments, deadlines, outputs, partner, refusals, replays, streams, tables
+from cases import about, alone, arguments, deadlines, outputs, partner, refusals, replays, streams, tables
 from cases.asking import SCRATCH
 from common import build, tell
 
@@ -13,7 +13,7 @@ from common import build, tell
 def main():
     build()
     with SCRATCH:
-        return tell([case for part in (tables, partner, deadlines, replays, refusals, arguments, streams, outputs, about) for case in part.cases()])
+        return tell([case for part in (tables, partner, deadlines, replays, refusals, arguments, streams, outputs, about, alone) for case in part.cases()])
 
 
 if __name__ == "__main__":

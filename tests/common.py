@@ -84,11 +84,11 @@ def environment(**more):
     return {**kept, "TERM": "xterm-256color", **more}
 
 
-def run(*args, text=b"", before=(), seconds=SECONDS, **more):
-    """How the command ended, with a text as its standard input unless another one is given."""
+def run(*args, text=b"", before=(), seconds=SECONDS, command=None, **more):
+    """How the command ended, or another one, with a text as its standard input unless another one is given."""
     given = {} if "stdin" in more else {"input": text}
     streams = {"stdout": subprocess.PIPE, "stderr": subprocess.PIPE, "env": environment(), **given, **more}
-    done = subprocess.run([*before, *COMMAND, *args], timeout=seconds, **streams)
+    done = subprocess.run([*before, *(command or COMMAND), *args], timeout=seconds, **streams)
     return Ended(done.stdout, done.stderr, done.returncode)
 
 
@@ -118,6 +118,8 @@ def build():
     """Where the programs are still to be built, this builds them."""
     printed(b"", [os.path.join(ROOT, "bin", "crpd-report")], BUILDING)
     run("--version", seconds=BUILDING)
+    if not os.path.exists(os.path.join(ROOT, "crates", "crpd_show", "out", "crpd_show.stamp")):
+        subprocess.run([os.path.join(ROOT, "tools", "prove.sh"), "crpd_show", "rt", "run", "--", "--help"], stdout=subprocess.DEVNULL, timeout=BUILDING, check=True)
 
 
 def status_of(report):

@@ -15,7 +15,7 @@ import cases as made
 import witnesses
 
 ROOT = witnesses.ROOT
-SAFE = {"test_vectors", "refused", "evaluated", "asked", "worded", "timelines", "change_lines", "dossier", "files", "crpd_command"}
+SAFE = {"test_vectors", "refused", "evaluated", "asked", "worded", "timelines", "change_lines", "dossier", "wording", "console", "files", "command_line", "crpd_show", "crpd_command"}
 IMPL = re.compile(r"impl(?:<[^>]*>)? (?:(\w+)(?:<[^>]*>)? for )?(&?[^{]*?) \{")
 FUNCTION = re.compile(r'\s*(pub )?(?:extern "C" )?fn (\w+)')
 

@@ -1,6 +1,6 @@
 #!/usr/bin/env python3
 """The numbers of the rules that stand in several places: the refusals, each with its number, and the limits of a table and of what is written. Of the refusals the
-code has the list (`Reason`, in crates/table/src/refusals.rt), and of the limits the constants of the crates; the definitions, the wrappers for C and Rust, the command
+code has the list (`Reason`, in crates/texts/src/refusals.rt), and of the limits the constants of the crates; the definitions, the wrappers for C and Rust, the command
 and the pages are held to them. Each place is counted once; the last line is `N passed, M failed`."""
 import os
 import re
@@ -38,7 +38,7 @@ def read(path):
 
 def refusals():
     """The number of each refusal, by its name in the code."""
-    said = re.search(r"pub enum Reason \{(.*?)\}", read("crates/table/src/refusals.rt"), re.S).group(1)
+    said = re.search(r"pub enum Reason \{(.*?)\}", read("crates/texts/src/refusals.rt"), re.S).group(1)
     return {name: int(number) for name, number in re.findall(r"(\w+) = (\d+),", said)}
 
 
@@ -56,7 +56,7 @@ def differ(told, numbers):
 
 
 def definition(found):
-    said = dict(re.findall(r"^reason_number (\w+) = (\d+)$", read("crates/table/specs/Numbers.antt"), re.M))
+    said = dict(re.findall(r"^reason_number (\w+) = (\d+)$", read("crates/texts/specs/Numbers.antt"), re.M))
     return differ(["%s = %s" % it for it in said.items()], ["%s = %d" % it for it in found.items()])
 
 
@@ -97,7 +97,7 @@ def page(path):
 
 
 REFUSALS = [
-    ("crates/table/specs/Numbers.antt", definition),
+    ("crates/texts/specs/Numbers.antt", definition),
     ("bindings/c/crpd.h", wrapper("bindings/c/crpd.h", r"refusals of a text are ")),
     ("bindings/rust/src/lib.rs", wrapper("bindings/rust/src/lib.rs", r"Those of a text are ")),
     ("docs/RULES.md", rules),

@@ -107,7 +107,7 @@ class Programs:
         mods = "".join("mod %s;\n" % name for name in variants)
         files = {"main.rs": "mod common;\n%s\nfn main() {\n    match std::env::args().nth(1).as_deref() {\n%s        _ => panic!(),\n    }\n}\n" % (mods, calls)}
         parts = {}
-        for part in ("common", "pieces", "tables", "terms", crate):
+        for part in ("common", "pieces", "reasons", "tables", "terms", crate):
             with open("%s/%s.rs" % (HERE, part), encoding="utf-8") as it:
                 parts[part + ".rs"] = it.read()
         files["common.rs"], driver = parts.pop("common.rs"), parts.pop(crate + ".rs")

@@ -59,7 +59,7 @@ impl<T> std::ops::Deref for Vec<T> {
 
 # Crates of the kit, and what stands for them here; `heap` for what is allocated.
 KIT = {"memchr": "pub fn memchr(c: u8, s: &[u8]) -> Option<usize> { s.iter().position(|x| *x == c) }\n", "heap": HEAP}
-ALLOCATES = "use std::alloc::{AllocError, Global};"
+ALLOCATES = re.compile(r"use std::alloc::(?:\{AllocError, Global\}|AllocError|Global);")
 
 RUNTIME = """
 pub struct HostRuntime;
@@ -110,7 +110,8 @@ def plain(text):
     while found := MODEL.search(text):
         text = text[: found.start()] + text[behind(text, found.start()) :]
     text = TACTIC.sub("", text).replace("use std::marker::Model;\n", "").replace("ErrorKind, Print, ", "ErrorKind, ")
-    text = text.replace(ALLOCATES, "use ::heap::{AllocError, Global, String, Vec};").replace("use std::alloc::AllocError;", "use ::heap::{AllocError, Vec};")
+    text = text.replace("use std::alloc::{AllocError, Global};", "use ::heap::{AllocError, Global, String, Vec};")
+    text = re.sub(r"use std::alloc::(AllocError|Global);", r"use ::heap::{\1, Vec};", text)
     text = TOLD.sub("::heap::told!(", text)
     return TYPE.sub(r"\1#[derive(Debug)] \2", DERIVE.sub(derived, text))
 
@@ -128,7 +129,7 @@ def crates(root):
         for path in glob.glob("%s/crates/%s/src/**/*.rt" % (root, name), recursive=True):
             with open(path, encoding="utf-8") as it:
                 texts.append(it.read())
-        uses[name] += ["heap"] * any(ALLOCATES in text for text in texts)
+        uses[name] += ["heap"] * any(ALLOCATES.search(text) for text in texts)
     return uses
 
 
@@ -186,9 +187,9 @@ def rustc(words, folder):
 
 
 def used(out, uses, name):
-    """The words by which rustc finds the libraries that a crate uses."""
+    """The words by which rustc finds the libraries below a crate: whoever calls it may name others than it does itself."""
     words = ["-L", out]
-    for it in uses[name] if name in uses else []:
+    for it in below(uses, uses.get(name, [])):
         words += ["--extern", "%s=%s/lib%s.rlib" % (it, out, it)]
     return words
 

@@ -9,6 +9,9 @@ crate=$1
 shift
 copies=$root/target/proving # 1, 2, ..: as many as there are processors
 most=$(nproc 2>/dev/null || echo 1)
+mkdir -p "$root/target"
+exec 9>"$root/target/proving.lock"
+flock 9 # another call would work in the same copies
 state=$(mktemp -d)
 mkdir "$state/busy" "$state/proved" "$state/refused" # files named as copies, and as crates; of a crate that is proved it has in which copy
 "$root/tools/plan.sh" "$crate" | sed '$d' >"$state/todo" # the crate itself stands last
@@ -57,18 +60,10 @@ count() {
     if [ -e "$1" ]; then echo $#; else echo 0; fi
 }
 
-# How many crates can be proved now, beside those that are being proved.
-count_ready() {
-    while read -r next uses; do
-        # shellcheck disable=SC2086
-        all_proved $uses && echo "$next"
-    done <"$state/todo" | wc -l
-}
-
-# Proves a library in a copy, by as many processes as are free: several for one crate take more of the processors than one does.
+# Proves a library in a copy, by one process: several take more of the processors, and are hardly sooner done.
 prove() {
     echo "proving $2"
-    if (cd "$copies/$1/crates/$2" && rt lib --jobs "$3") </dev/null; then
+    if (cd "$copies/$1/crates/$2" && rt lib --jobs 1) </dev/null; then
         echo "$1" >"$state/made.$1"
         mv "$state/made.$1" "$state/proved/$2"
     else
@@ -83,14 +78,13 @@ for copy in $(seq "$most"); do
 done
 while [ -s "$state/todo" ] && [ "$(count refused)" -eq 0 ]; do
     : >"$state/later"
-    beside=$(($(count_ready) + $(count busy)))
     while read -r next uses; do
         # shellcheck disable=SC2086
         if [ "$(count busy)" -lt "$most" ] && all_proved $uses; then
             copy=1
             while [ -e "$state/busy/$copy" ]; do copy=$((copy + 1)); done
             : >"$state/busy/$copy"
-            prove "$copy" "$next" $((beside < most ? most / beside : 1)) &
+            prove "$copy" "$next" &
         else
             echo "$next $uses" >>"$state/later"
         fi
@@ -102,6 +96,7 @@ wait
 [ "$(count refused)" -eq 0 ]
 finish
 trap - EXIT
+exec 9>&-
 echo "proving $crate"
 cd "$root/crates/$crate"
 exec "$@"

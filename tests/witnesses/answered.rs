@@ -1,6 +1,6 @@
 // What `answered` writes and tells.
-use crate::{answer as answer_to, check, ending_checked, read_text, show, Answered, Question};
-use ::heap::Global;
+use crate::{answer as answer_to, check, ending_checked, Question};
+use ::endings::Answered;
 
 #[path = "common.rs"]
 mod common;
@@ -14,11 +14,6 @@ fn answer(name: &str, args: &mut Args) -> String {
     let bytes = args.bytes();
     let mut out = vec![];
     let question = match name {
-        "read_text" => return text(&read_text(Global, &mut &bytes[..]).unwrap()),
-        "show" => {
-            let shown = show(Global, &bytes, args.number() == 1, &mut out);
-            return told(shown.ok().unwrap(), &out);
-        }
         "check" => {
             let (list, method) = (args.bytes(), args.number());
             return told(check(&bytes, &list, method, &mut out), &out);

@@ -204,6 +204,28 @@ def of_cache():
     return found
 
 
+# names of every kind, and what is none
+NAMES = ["", "a", "z", "A", "Z", "0", "9", "-", "_", "`", "{", "/", ":", ".", ",", "a-1", "abcdefghijkl", "abcdefghijklm", "abcdefghijk", "aB", "a\0", "\0", "a b", "a\xc8", "aA", "Aa"]
+
+
+def of_texts():
+    found = []
+    for line in ["", "\n", "a", "a\n", "a\nb", "a\nb\n", "\n\n", "a\n\nb", "a\r\nb\r\n", "\na", "a\tb\n", "ab\ncd\nef", "a\rb"]:
+        found += ["next_line %s" % text(line), "lines %s" % text(line)]
+    for line in ["", "\t", "a", "a\t", "\ta", "a\tb", "ab\tcd\tef", "a\t\tb", "abc\td", "abcd\te", "abcde\tf", "abcdefg\th", "abcdefgh\ti", "abcdefgh", "abcdefghi\tj\tk", "\t\t\t\t", "a\t\t\t\tb", "aaaaaaaaaaaaaaaaaaaaaaa\tb", "a b", "T\ta\t1\t20\t20\t0\t0\t0\tf"]:
+        found += ["first_field %s" % text(line), "fields %s" % text(line)] + ["is_done %s %d" % (text(line), k) for k in range(5)]
+    for field in ["", "0", "1", "9", "00", "01", "10", "12", "99", "123456789", "999999999", "1000000000", "0123456789", "12345678", "x", "1x", "x1", "+1", "-1", " 1", "/", ":", "1:", "1/", "250000000", "a", "9/"]:
+        found.append("read_number %s" % text(field))
+    found += ["is_name %s" % text(it) for it in NAMES]
+    for low, high in [(1, 5), (0, 5), (5, 5), (5, 1), (0, 250000000), (1, 250000000)]:
+        found += ["is_within %d %d %d" % (low, high, n) for n in {0, 1, low, high, low + 1, high - 1 if high else 0, high + 1, (low + high) // 2, 250000000, 250000001}]
+    for a in ["", "a", "b", "ab", "ac", "bb", "abc", "abd", "aa", "ba", "abcdefghijkl", "abcdefghijkm"]:
+        found += ["same_bytes %s %s" % (text(a), text(b)) for b in ["", "a", "b", "ab", "abc", "bb", "aa", "abcdefghijkl", "bbc"]]
+    found += ["%s %d" % (it, k) for it in ("number", "alone", "untold") for k in range(18)]
+    found += ["at %d %d" % (k, field) for k in (0, 4, 17) for field in (0, 1, 9)] + ["on %d %d %d" % (k, field, line) for k in (0, 4, 17) for field in (0, 9) for line in (0, 3, 16385)]
+    return found
+
+
 def of_table():
     found = ["empty"]
     found += ["read %s" % text(it) for it in texts()] + ["read %s" % it for it in long_texts()]
@@ -212,27 +234,14 @@ def of_table():
         if n:
             found += ["tasks %s -" % text(many_tasks(n)), "accesses %s -" % text(many_accesses(n))] + ["task %s - %d" % (text(many_tasks(n)), k) for k in {0, n // 2, n - 1}]
     found += ["accesses %s -" % text(THREE), "tasks %s count=0" % text(THREE), "accesses %s access_count=2" % text(THREE), "tasks %s count=2" % text(THREE), "tasks %s count=33" % text(THREE), "tasks %s count=40" % text(THREE), "accesses %s access_count=40" % text(THREE), "accesses %s access_count=31" % text(THREE), "tasks %s count=31" % text(THREE)]
-    for line in ["", "\n", "a", "a\n", "a\nb", "a\nb\n", "\n\n", "a\n\nb", "a\r\nb\r\n", "\na", "a\tb\n", "ab\ncd\nef", "a\rb"]:
-        found += ["next_line %s" % text(line), "lines %s" % text(line)]
-    for line in ["", "\t", "a", "a\t", "\ta", "a\tb", "ab\tcd\tef", "a\t\tb", "abc\td", "abcd\te", "abcde\tf", "abcdefg\th", "abcdefgh\ti", "abcdefgh", "abcdefghi\tj\tk", "\t\t\t\t", "a\t\t\t\tb", "aaaaaaaaaaaaaaaaaaaaaaa\tb", "a b", "T\ta\t1\t20\t20\t0\t0\t0\tf"]:
-        found += ["first_field %s" % text(line), "fields %s" % text(line)] + ["is_done %s %d" % (text(line), k) for k in range(5)]
-    for field in ["", "0", "1", "9", "00", "01", "10", "12", "99", "123456789", "999999999", "1000000000", "0123456789", "12345678", "x", "1x", "x1", "+1", "-1", " 1", "/", ":", "1:", "1/", "250000000", "a", "9/"]:
-        found.append("read_number %s" % text(field))
-    for field in ["", "a", "z", "A", "Z", "0", "9", "-", "_", "`", "{", "/", ":", ".", ",", "a-1", "abcdefghijkl", "abcdefghijklm", "abcdefghijk", "aB", "a\0", "\0", "a b", "a\xc8", "aA", "Aa"]:
-        found += ["is_name %s" % text(field), "name_of %s" % text(field)] * (len(field) <= 12) + ["is_name %s" % text(field)]
+    for field in NAMES:
         if len(field) <= 12:
-            found += ["name_text %s" % text(field), "is_filled %s" % text(field), "position_of %s %s -" % (text(field), text(THREE)), "is_known %s %s -" % (text(field), text(THREE))]
+            found += ["%s %s" % (it, text(field)) for it in ("name_of", "name_text", "is_filled")] + ["%s %s %s -" % (it, text(field), text(THREE)) for it in ("position_of", "is_known")]
     for field in ["a\0b", "\0a", "a\0\0b", "abcdefghijk\0", "a\0\0\0\0\0\0\0\0\0\0b", "a", "b", "c", "d", "ab", "ca", "abcdefghijkl"]:
         found += ["name_text %s" % text(field), "is_filled %s" % text(field), "name_len %s" % text(field)]
         for n in (1, 2, 3, 32):
             found += ["position_of %s %s -" % (text(field), text(many_tasks(n))), "is_known %s %s -" % (text(field), text(many_tasks(n)))]
     found += ["position_of %s %s t2.name=97" % (text("a"), text(THREE)), "position_of %s %s t1.name=99" % (text("c"), text(THREE)), "is_known %s %s count=2" % (text("c"), text(THREE)), "position_of %s %s count=0" % (text("a"), text(THREE))]
-    for low, high in [(1, 5), (0, 5), (5, 5), (5, 1), (0, 250000000), (1, 250000000)]:
-        found += ["is_within %d %d %d" % (low, high, n) for n in {0, 1, low, high, low + 1, high - 1 if high else 0, high + 1, (low + high) // 2, 250000000, 250000001}]
-    for a in ["", "a", "b", "ab", "ac", "bb", "abc", "abd", "aa", "ba", "abcdefghijkl", "abcdefghijkm"]:
-        found += ["same_bytes %s %s" % (text(a), text(b)) for b in ["", "a", "b", "ab", "abc", "bb", "aa", "abcdefghijkl", "bbc"]]
-    found += ["%s %d" % (it, k) for it in ("number", "alone", "untold") for k in range(18)]
-    found += ["at %d %d" % (k, field) for k in (0, 4, 17) for field in (0, 1, 9)] + ["on %d %d %d" % (k, field, line) for k in (0, 4, 17) for field in (0, 9) for line in (0, 3, 16385)]
     found += ["ways %s form=%d" % (text(THREE), ways) for ways in (0, 1, 2, 8)]
     found += ["may_block %d %d %d" % (t, c, i) for t in range(4) for c in range(4) for i in range(4)]
     found += ["head %s" % text(it) for it in heads()] + ["head_in_range %d %d 0" % (sets, brt) for sets in (0, 1, 2, 3, 4, 5, 6, 8, 252, 254, 255, 256, 257, 260, 512) for brt in (0, 1, 99999, 100000, 100001)]
@@ -686,16 +695,16 @@ def of_crpd_report():
 
 def of_streams():
     found = ["read_input %s %s %d" % (text("a" * n), steps, room) for n in (0, 3, 12) for steps in ("-", "2", "0", "1", "2,1", "3,0,4") for room in (0, 2, 10, 20)]
+    found += ["read_text %s" % it for it in ('""', '"ab"', '"a"*16384', '"a"*16385', '"a"*20000')]
     return found + ["write_output %s %d" % (text("a" * n), room) for n in (0, 3, 12) for room in (0, 3, 5, 100)]
 
 
 def of_answered():
     late = "K\t4\t1\nT\ta\t5\t10\t10\t0\t0\t0\t0\nT\tb\t6\t20\t11\t0\t0\t0\t0\n"
     some = [text(it) for it, _ in tables(7, 12)] + [text(it) for it in (THREE, late, late.replace("a\t5", "a\t8"), THREE[:-1], "", many_tasks(8))]
-    found = ["%s %s" % (name, it) for it in some for name in ("report", "edf")] + ["show %s %d" % (it, colours) for it in some for colours in (0, 1)]
+    found = ["%s %s" % (name, it) for it in some for name in ("report", "edf")]
     found += ["%s %s %d" % (name, it, n) for it in some for name, most in (("growth", 6), ("scaled", 6), ("replay", 3)) for n in range(most + 1)]
-    found += ["%s %s %d %d" % (name, it, m, i) for it in some for name in ("answer", "explain") for m in (0, 2, 5, 6) for i in (0, 1, 2, 40)]
-    return found + ["read_text %s" % it for it in ('""', '"ab"', '"a"*16384', '"a"*16385', '"a"*20000')]
+    return found + ["%s %s %d %d" % (name, it, m, i) for it in some for name in ("answer", "explain") for m in (0, 2, 5, 6) for i in (0, 1, 2, 40)]
 
 
 def of_sentences():
@@ -747,7 +756,8 @@ def of_changes():
 
 
 def of_shown():
-    some = [text(it) for it, _ in tables(7, 20)] + [text(THREE), text(many_tasks(32)), '"a"', '""']
+    late = "K\t4\t1\nT\ta\t5\t10\t10\t0\t0\t0\t0\nT\tb\t6\t20\t11\t0\t0\t0\t0\n"
+    some = [text(it) for it, _ in tables(7, 20)] + [text(THREE), text(late), text(many_tasks(32)), '"a"', '""']
     return ["show %s %d" % (it, colours) for it in some for colours in (0, 1)] + ["no_memory"]
 
 

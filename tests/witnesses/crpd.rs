@@ -6,7 +6,7 @@ use crate::{
 use cache::units::Ticks;
 use deadlines::Verdict;
 use search::demand::Response;
-use table::refusals::{Reason, Refusal};
+use texts::refusals::{Reason, Refusal};
 use ::{cache, edf as deadlines, table};
 
 #[path = "common.rs"]

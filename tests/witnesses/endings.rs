@@ -3,8 +3,10 @@ use crate as endings;
 use crate::Ending;
 use ::cache;
 use ::search;
+use ::table;
 use cache::units::Ticks;
 use search::demand::Response;
+use texts::refusals::Reason;
 
 #[path = "common.rs"]
 mod common;
@@ -32,6 +34,10 @@ fn answer(name: &str, args: &mut Args) -> String {
     match name {
         "status" => show(ending(args).status()),
         "of_response" => show(endings::Ending::of_response(response(args.word()))),
+        "of_answer" => show(Ending::of_answer(match args.word() {
+            "e" => Err(Reason::NotEnded.alone().on(7)),
+            word => Ok(response(word)),
+        })),
         "of_responses" => show(Ending::of_responses(args.number() == 1)),
         "worse" => show(ending(args).worse(ending(args))),
         _ => unknown(name),

@@ -1,7 +1,7 @@
 // What the functions of `laws` answer, as far as their promises leave one answer.
 use crate::solutions::{Alone, Demand};
 use crate::{
-    added, any_order, any_worker, claimed, dominance, explanations, figures, orders, solutions, texts,
+    added, any_order, any_text, any_worker, claimed, dominance, explanations, figures, orders, solutions,
 };
 use analysis::costs::Single;
 use analysis::Method;
@@ -190,7 +190,7 @@ fn answer(name: &str, args: &mut Args) -> String {
             };
             show(solutions::smallest(&demand, Ticks(args.number())))
         }
-        "of_two_texts" => show(texts::of_two_texts(
+        "of_two_texts" => show(any_text::of_two_texts(
             &args.bytes(),
             &args.bytes(),
             args.number(),
@@ -198,14 +198,14 @@ fn answer(name: &str, args: &mut Args) -> String {
         )),
         "read_then_written" => {
             let mut out = [b'~'; 16384];
-            let read = texts::read_then_written(&args.bytes(), &mut out);
+            let read = any_text::read_then_written(&args.bytes(), &mut out);
             let end = out.iter().rposition(|b| *b != b'~').map_or(0, |k| k + 1);
             filled(read, &out[..end])
         }
         "written_then_read" => {
             let table = tables::changed(args);
             let mut again = Table::empty();
-            let read = texts::written_then_read(&table, &mut again);
+            let read = any_text::written_then_read(&table, &mut again);
             format!("{:?} {}", read, tables::shown(&again))
         }
         _ => unknown(name),

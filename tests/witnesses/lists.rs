@@ -1,6 +1,6 @@
 // What the public functions of `lists` answer.
 use crate::{line, put_together, Fate};
-use table::refusals::{Reason, Refusal};
+use texts::refusals::{Reason, Refusal};
 use ::heap::{Global, Vec as Room};
 use ::table;
 

@@ -8,10 +8,13 @@ use common::{text, unknown, Args};
 
 fn answer(name: &str, args: &mut Args) -> String {
     match name {
-        "show" => match show(Global, &args.bytes(), args.number() == 1) {
-            Ok(shown) => format!("{} {}", text(&shown.text), shown.passes),
-            Err(why) => common::show(why),
-        },
+        "show" => {
+            let (bytes, mut out) = (args.bytes(), vec![]);
+            match show(Global, &bytes, args.number() == 1, &mut out) {
+                Ok(answered) => format!("{} {} {}", text(&out), common::show(answered.ending), answered.written.is_ok()),
+                Err(error) => common::show(error),
+            }
+        }
         "no_memory" => common::show(Unshown::from(AllocError)),
         _ => unknown(name),
     }

@@ -1,5 +1,6 @@
 // What `streams` does with readers and writers of every kind.
-use crate::{read_input, write_output};
+use crate::{read_input, read_text, write_output};
+use ::heap::Global;
 
 #[path = "common.rs"]
 mod common;
@@ -23,6 +24,11 @@ fn answer(name: &str, args: &mut Args) -> String {
                 Ok(len) => &buf[..len] == read && reader.left == unread,
                 Err(_) => steps.contains(&1),
             }
+        }
+        "read_text" => {
+            let bytes = args.bytes();
+            let most = bytes.len().min(16_385);
+            matches!(read_text(Global, &mut &bytes[..]), Ok(text) if text[..] == bytes[..most])
         }
         "write_output" => {
             let (bytes, room) = (args.bytes(), args.size());

@@ -2,12 +2,10 @@
 use crate as table;
 use crate::accepted::Accepted;
 use crate::accesses::Access;
-use crate::fields::{is_name, is_within, read_number, same_bytes};
-use crate::refusals::Refusal;
 use crate::tasks::{is_known, position_of, Head, Name, Task};
-use crate::text::{first_field, next_line, Fields, Lines};
 use crate::Table;
 use ::cache;
+use ::texts;
 use cache::units::Ticks;
 use cache::useful::Useful;
 
@@ -49,34 +47,6 @@ fn answer(name: &str, args: &mut Args) -> String {
         "tasks" => show(tables::changed(args).tasks()),
         "task" => show(tables::changed(args).task(args.size())),
         "accesses" => show(tables::changed(args).accesses()),
-        "next_line" => {
-            let whole = args.bytes();
-            let (line, below) = next_line(&whole);
-            format!("{} | {}", text(line), text(below))
-        }
-        "lines" => show(Lines::of(&args.bytes()).map(text).collect::<Vec<_>>()),
-        "first_field" => text(first_field(&args.bytes())),
-        "fields" => show(Fields::of(&args.bytes()).map(text).collect::<Vec<_>>()),
-        "is_done" => {
-            let line = args.bytes();
-            let mut fields = Fields::of(&line);
-            for _ in 0..args.number() {
-                fields.next();
-            }
-            show(fields.is_done())
-        }
-        "read_number" => show(read_number(&args.bytes())),
-        "is_name" => show(is_name(&args.bytes())),
-        "is_within" => show(is_within(args.number(), args.number(), args.number())),
-        "same_bytes" => show(same_bytes(&args.bytes(), &args.bytes())),
-        "number" => show(tables::REASONS[args.size()].number()),
-        "at" => show(tables::REASONS[args.size()].at(args.size())),
-        "alone" => show(tables::REASONS[args.size()].alone()),
-        "on" => {
-            let fault = tables::REASONS[args.size()].at(args.size());
-            show(fault.on(args.number()))
-        }
-        "untold" => show(Refusal::untold(tables::REASONS[args.size()])),
         "name_of" => show(Name::of(&args.bytes())),
         "name_len" => show(name_of(args).len()),
         "ways" => show(tables::changed(args).ways()),

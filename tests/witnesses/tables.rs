@@ -4,30 +4,8 @@ use super::cache::units::Ticks;
 use super::cache::useful::{Form, Useful};
 use super::common::{number, Args};
 use super::table::accesses::Access;
-use super::table::refusals::Reason;
 use super::table::tasks::{Name, Task};
 use super::table::Table;
-
-pub const REASONS: [Reason; 18] = [
-    Reason::TooLong,
-    Reason::NotEnded,
-    Reason::Shape,
-    Reason::Name,
-    Reason::Number,
-    Reason::Range,
-    Reason::Marks,
-    Reason::Order,
-    Reason::KnownName,
-    Reason::TooManyTasks,
-    Reason::NoTask,
-    Reason::Method,
-    Reason::Position,
-    Reason::ShortBuffer,
-    Reason::OtherTask,
-    Reason::TooManyAccesses,
-    Reason::Blocking,
-    Reason::NoText,
-];
 
 // How useful blocks are written: 0 for hex digits, or the ways.
 fn form_of(number: u64) -> Form {

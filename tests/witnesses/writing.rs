@@ -4,13 +4,16 @@ use crate::marks::{marks_fit, useful_fits, write_marks, write_useful};
 use crate::writer::{digits_in, Draft};
 use cache::sets::CacheSet;
 use cache::useful::Useful;
-use table::refusals::Refusal;
+use texts::refusals::{Reason, Refusal};
 use ::{cache, table};
 
 #[path = "common.rs"]
 mod common;
+#[path = "reasons.rs"]
+mod reasons;
 #[path = "tables.rs"]
 mod tables;
+use reasons::REASONS;
 use common::{filled, show, text, unknown, Args};
 
 // The words of each level, from the first on: those that are not told are 0.
@@ -48,7 +51,7 @@ fn drafted(args: &mut Args) -> Draft {
             "error" => write_error(
                 &mut draft,
                 Refusal {
-                    reason: tables::REASONS[args.size()],
+                    reason: REASONS[args.size()],
                     line: args.number(),
                     field: None,
                 },

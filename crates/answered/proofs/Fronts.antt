@@ -1,14 +1,16 @@
 -- What stands behind the first 16,385 bytes of a text changes nothing of what is written, and of how it ends.
 use Rattle.std.proofs.Common.{◌≡◌, ℕ, ◌<◌, List, Option, Result, take, length, arith, refl, ap, subst, ◌∙◌, take_all, length-take-le}
 use Rattle.std.proofs.Math.Decide.{dec_lt}
-use Rattle.table.specs.declared.refusals.Refusal.{Refusal}
+use Rattle.texts.specs.declared.refusals.Refusal.{Refusal}
 use Rattle.endings.specs.declared.Ending.{Ending}
 use Rattle.crpd.specs.Operations.{printed, answer_to, growth_to, scaled_to, edf_to, replay_to}
 use Rattle.streams.proofs.LongTexts.{too_long, read_front}
 use Rattle.answered.specs.declared.Question.{Question}
 use Rattle.answered.specs.declared.Question.TheVariants.{Report, Answer, Explain, Growth, Scaled, Edf, Replay}
-use Rattle.answered.specs.declared.Answered.{Answered}
-use Rattle.answered.specs.Answered.{bytes_for, ending_for, bytes_checked, ending_checked, Writes, WritesAnswer, AnswersTo, ChecksTo}
+use Rattle.endings.specs.declared.Answered.{Answered}
+use Rattle.endings.specs.Answered.{Writes, WritesAnswer}
+use Rattle.report.specs.Verdicts.{passes_to}
+use Rattle.answered.specs.Answered.{bytes_for, ending_for, bytes_checked, ending_checked, AnswersTo, ChecksTo}
 
 scaled_long : (m : ℕ) (text : List ℕ) → 16384 < length text → scaled_to (take 16385 text) m ≡ scaled_to text m
 unfolding scaled_to
@@ -41,6 +43,10 @@ printed_front : (text : List ℕ) → printed (take 16385 text) ≡ printed text
 unfolding printed
 printed_front text = rw (read_front text) refl
 
+passes_front : (text : List ℕ) → passes_to (take 16385 text) ≡ passes_to text
+unfolding passes_to
+passes_front text = rw (read_front text) refl
+
 pub bytes_front : (question : Question) (text : List ℕ) → bytes_for question (take 16385 text) ≡ bytes_for question text
 unfolding bytes_for
 bytes_front Report text = printed_front text
@@ -53,7 +59,7 @@ bytes_front (Replay p) text = rw (replay_front p text) refl
 
 pub ending_front : (question : Question) (text : List ℕ) → ending_for question (take 16385 text) ≡ ending_for question text
 unfolding ending_for
-ending_front Report text = rw (read_front text) refl
+ending_front Report text = rw (passes_front text) refl
 ending_front (Answer m p) text = rw (answer_front m p text) refl
 ending_front (Explain m p) text = rw (answer_front m p text, read_front text) refl
 ending_front (Growth m) text = rw (growth_front m text) refl

@@ -1,5 +1,4 @@
 pub mod Lines
 pub mod Fronts
 pub mod Claims
-pub mod Plain
-pub mod PlainTexts
+pub mod PrintableTexts

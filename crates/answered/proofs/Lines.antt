@@ -1,10 +1,7 @@
 -- How long lines are, and what stands at the start of a buffer.
-use Rattle.std.proofs.Common.{◌≡◌, ℕ, ◌^◌, Bool, true, false, cond, Option, Some, None, IfSome, ◌≤◌, ◌<◌, List, [], length, take, drop, arith, refl, ap, subst, ◌∙◌, Result, Ok, Err}
+use Rattle.std.proofs.Common.{◌≡◌, ℕ, ◌^◌, Bool, true, false, cond, Option, ◌≤◌, ◌<◌, List, length, take, drop, arith, refl, ap, subst, ◌∙◌, Result, Ok, Err}
 use Rattle.std.proofs.Math.Seq.{take-append_seam}
-use Rattle.std.specs.Prelude.{OnOk, OnErr}
-use Rattle.std.specs.Io.KnownBytes.{Appends}
-use Rattle.streams.specs.Bytes.{AppendsPart}
-use Rattle.table.specs.declared.refusals.Refusal.{Refusal}
+use Rattle.texts.specs.declared.refusals.Refusal.{Refusal}
 use Rattle.table.specs.Reading.{then_read}
 use Rattle.writing.specs.Text.{spelled}
 use Rattle.writing.specs.Delivery.{PutsText, DeliversText}
@@ -15,15 +12,15 @@ use Rattle.endings.specs.declared.Ending.TheVariants.{Given, NoResponse}
 use Rattle.endings.specs.Endings.{ending_of}
 use Rattle.crpd.specs.declared.Outcome.{Outcome}
 use Rattle.crpd.specs.declared.Outcome.TheVariants.{Passed, SomeUnschedulable, Refused}
-use Rattle.crpd.specs.Operations.{WritesText, numbered, outcome_of, outcome_to}
+use Rattle.crpd.specs.Operations.{WritesText, outcome_of, outcome_to}
 use Rattle.table.specs.declared.Table.{Table}
 use Rattle.table.specs.Reading.{read_text}
-use Rattle.analysis.specs.Analysis.{response_of}
-use Rattle.report.specs.Verdicts.{every_verdict}
-use Rattle.shown.specs.Shown.{shown_to}
-use Rattle.answered.specs.declared.Answered.{Answered}
+use Rattle.analysis.specs.Analysis.{response_of, numbered}
+use Rattle.report.specs.Verdicts.{every_verdict, passes_to}
+use Rattle.endings.specs.declared.Answered.{Answered}
+use Rattle.endings.specs.Answered.{unless_refused, Writes, WritesAnswer}
 use Rattle.answered.specs.declared.Question.TheVariants.{Report}
-use Rattle.answered.specs.Answered.{unless_refused, ending_for, Writes, WritesAnswer, ShowsTo}
+use Rattle.answered.specs.Answered.{ending_for}
 
 -- a number of 64 bits has at most 20 digits
 pub number_fits : (n : ℕ) → n < 2 ^ 64 → length (spelled n) ≤ 20
@@ -76,7 +73,7 @@ module _ {most : ℕ} {made : Result (List ℕ) Refusal} {before after : List �
 -- ---- how it ends with a report
 
 abbrev pub ending_in : Result Table Refusal → Result Ending Refusal
-ending_in read = then_read read (λ table. Ok (ending_of (every_verdict table.count (λ m. response_of table (numbered m)))))
+ending_in read = then_read (then_read read (λ table. Ok (every_verdict table.count (λ m. response_of table (numbered m))))) (λ passes. Ok (ending_of passes))
 
 abbrev pub ending_with : Outcome → Result Ending Refusal → Result Ending Refusal
 ending_with Passed refused = Ok Given
@@ -92,7 +89,7 @@ ended (Ok table) = go (every_verdict table.count (λ m. response_of table (numbe
     go false = refl
 
 pub report_ending : (text : List ℕ) (outcome : Outcome) → outcome ≡ outcome_to text → ending_with outcome (then_read (read_text text) (λ table. Ok Given)) ≡ ending_for Report text
-unfolding outcome_to ending_for
+unfolding outcome_to ending_for passes_to
 report_ending text outcome e = rw e (ended (read_text text))
 
 pub report_passed : (text : List ℕ) → Passed ≡ outcome_to text → Ok Given ≡ ending_for Report text
@@ -104,18 +101,7 @@ report_unschedulable text e = report_ending text SomeUnschedulable e
 pub report_refused : (text : List ℕ) → Refused ≡ outcome_to text → then_read (read_text text) (λ table. Ok Given) ≡ ending_for Report text
 report_refused text e = report_ending text Refused e
 
--- ---- what is read
-
-pub all_read : (had : Option (List ℕ)) (buf : List ℕ) (len : ℕ) → length buf ≡ 16385 → IfSome had (λ bytes. take len buf ≡ take (length buf) bytes)
-    → IfSome had (λ bytes. take len buf ≡ take 16385 bytes)
-all_read None buf len room came = tt
-all_read (Some bytes) buf len room came = came ∙ ap (λ n. take n bytes) room
-
 -- ---- what is written
-
-pub wrote : {E : Type 0} (bytes : List ℕ) (a b : Option (List ℕ)) (written : Result Unit E) → OnOk written (Appends a b bytes) → OnErr written (AppendsPart a b bytes) → Writes bytes a b written
-wrote bytes a b (Ok done) whole part = whole
-wrote bytes a b (Err e) whole part = part
 
 -- what stands at the start of a buffer
 pub answers : (bytes before after : List ℕ) (ending : Result Ending Refusal) (end : ℕ) (a b : Option (List ℕ)) (answered : Answered) → PutsText bytes before end after
@@ -123,25 +109,4 @@ pub answers : (bytes before after : List ℕ) (ending : Result Ending Refusal) (
 answers bytes before after ending end a b answered put wrote ends = record {
   written = subst (λ bytes. Writes bytes a b answered.written) (put_start bytes before after end put) wrote;
   ending-is = ends;
-}
-
--- the report as people see it
-pub shows : (colours : Bool) (text lines : List ℕ) (passes : Bool) (a b : Option (List ℕ)) (answered : Answered) → Ok lines ≡ shown_to colours text
-    → (cond passes Passed SomeUnschedulable) ≡ outcome_to text → Writes lines a b answered.written → answered.ending ≡ Ok (ending_of passes) → ShowsTo colours text a b answered
-shows colours text lines passes a b answered shown went wrote ends = record {
-  written = rw (← shown) wrote;
-  ending-is = ends ∙ go passes went;
-}
-  where
-    go : (p : Bool) → (cond p Passed SomeUnschedulable) ≡ outcome_to text → Ok (ending_of p) ≡ ending_for Report text
-    go true e = report_passed text e
-    go false e = report_unschedulable text e
-
--- a text that is refused is not shown
-pub shows_refused : (colours : Bool) (text : List ℕ) (refusal : Refusal) (a b : Option (List ℕ)) (answered : Answered) → Err refusal ≡ read_text text
-    → Writes [] a b answered.written → answered.ending ≡ Err refusal → ShowsTo colours text a b answered
-unfolding shown_to ending_for
-shows_refused colours text refusal a b answered refused wrote ends = record {
-  written = rw (← refused) wrote;
-  ending-is = ends ∙ rw (← refused) refl;
 }

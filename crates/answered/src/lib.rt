@@ -1,17 +1,15 @@
-// What the commands that ask one question of one table write, and how they end: over any reader and any writer, of every text.
+// What the commands that ask one question of one table write, and how they end: over any writer, of every text.
 #![tactic(auto)]
 
-ghost use Rattle.std.specs.Prelude.{◌≡◌, ◌+◌, List, ℕ, take, Ok, IfOk, nat_le, is_some};
-ghost use Rattle.std.specs.Bool.{OnFalse};
+ghost use Rattle.std.specs.Prelude.{◌≡◌, ◌+◌, List, ℕ, take, Ok, nat_le, is_some};
 ghost use Rattle.std.specs.List.{AllPass};
-ghost use Rattle.std.specs.Io.KnownBytes.{Consumes};
 ghost use Rattle.table.specs.declared.TheConstants.Table.{LONGEST_TEXT};
 ghost use Rattle.table.specs.Reading.{then_read, read_text};
+ghost use Rattle.writing.specs.Printable.{is_printable_byte};
 ghost use Rattle.writing.specs.Text.{spelled};
 ghost use Rattle.writing.specs.Delivery.{PutsText};
-ghost use Rattle.analysis.specs.Verdict.{has_response};
 ghost use Rattle.endings.specs.Endings.{ending_of};
-ghost use Rattle.answered.specs.Answered.{as_line, told_response, told_end, told_yes, is_plain_byte, bytes_for, bytes_shown, is_yes, ending_for, bytes_checked, is_bad, has_bad_claim, ending_checked, AnswersTo, ChecksTo, ShowsTo, IsReadOf};
+ghost use Rattle.answered.specs.Answered.{as_line, told_response, told_end, told_yes, bytes_for, is_yes, ending_for, bytes_checked, is_bad, has_bad_claim, ending_checked, AnswersTo, ChecksTo};
 
 use analysis::Method;
 use cache::units::Ticks;
@@ -19,15 +17,13 @@ use claims::finding::{Finding, judge};
 use claims::list;
 use crpd::Outcome;
 use edf::Verdict;
-use endings::Ending;
+use endings::{Answered, Ending};
 use search::demand::Response;
-use shown::Unshown;
-use std::alloc::{AllocError, Global};
-use std::io::{self, Read, Write};
-use streams::{read_input, write_output};
+use std::io::Write;
+use streams::write_output;
 use table::Table;
 use table::accepted::Accepted;
-use table::refusals::{Reason, Refusal};
+use texts::refusals::{Reason, Refusal};
 use writing::delivery;
 use writing::writer::{Draft, ROOM};
 
@@ -103,16 +99,6 @@ fn is_yes(verdict: Verdict) -> bool
     }
 }
 
-// How it ends where a response is told.
-fn ending_of_answer(answer: Result<Response, Refusal>) -> Result<Ending, Refusal>
-    ensures { result ≡ then_read answer (λ response. Ok (ending_of (has_response response))) }
-{
-    match answer {
-        Ok(response) => Ok(Ending::of_response(response)),
-        Err(refusal) => Err(refusal),
-    }
-}
-
 // How it ends where a growth is told.
 fn ending_of_growth(growth: Result<u64, Refusal>) -> Result<Ending, Refusal>
     ensures { result ≡ then_read growth (λ k. Ok (ending_of (nat_le 1000 k))) }
@@ -173,7 +159,7 @@ fn put_explanation(
     match crpd::explain(text, method, position, out) {
         Ok(len) => Made {
             len,
-            ending: ending_of_answer(crpd::answer(text, method, position)),
+            ending: Ending::of_answer(crpd::answer(text, method, position)),
         },
         Err(refusal) => Made {
             len: 0,
@@ -339,20 +325,13 @@ fn put_findings(text: &[u8], list: &[u8], method: u64, out: &mut [u8; Table::LON
     }
 }
 
-// What became of a question: how the command ends, unless the text is refused; and whether all was written.
-#[derive(Drop)]
-pub struct Answered {
-    pub ending: Result<Ending, Refusal>,
-    pub written: io::Result<()>,
-}
-
 // Writes the answer to a question about a text, and nothing else. The ending is that of the text, whatever becomes of the writing. Where the text is what was read of
 // more bytes, it is the answer to all of them.
-#[tactic(auto, using(crate::proofs::Lines::answers, crate::proofs::PlainTexts::answer_passes))]
+#[tactic(auto, using(crate::proofs::Lines::answers, crate::proofs::PrintableTexts::answer_passes))]
 pub fn answer<W: Write>(question: Question, text: &[u8], writer: &mut W) -> Answered
     ensures answers { AnswersTo question text.now (W.contents writer.old) (W.contents writer.new) result }
     ensures whole { (bytes : List ℕ) → text.now ≡ take (LONGEST_TEXT + 1) bytes → AnswersTo question bytes (W.contents writer.old) (W.contents writer.new) result }
-    ensures plain { AllPass is_plain_byte (bytes_for question text.now) }
+    ensures printable { AllPass is_printable_byte (bytes_for question text.now) }
 {
     let mut out = [0u8; Table::LONGEST_TEXT];
     let made = put_for(question, text, &mut out);
@@ -368,7 +347,7 @@ pub fn answer<W: Write>(question: Question, text: &[u8], writer: &mut W) -> Answ
 pub fn check<W: Write>(text: &[u8], list: &[u8], method: u64, writer: &mut W) -> Answered
     ensures checks { ChecksTo text.now list.now method (W.contents writer.old) (W.contents writer.new) result }
     ensures whole { (bytes : List ℕ) → text.now ≡ take (LONGEST_TEXT + 1) bytes → ChecksTo bytes list.now method (W.contents writer.old) (W.contents writer.new) result }
-    ensures plain { AllPass is_plain_byte (bytes_checked text.now list.now method) }
+    ensures printable { AllPass is_printable_byte (bytes_checked text.now list.now method) }
 {
     let mut out = [0u8; Table::LONGEST_TEXT];
     let made = put_findings(text, list, method, &mut out);
@@ -376,37 +355,4 @@ pub fn check<W: Write>(text: &[u8], list: &[u8], method: u64, writer: &mut W) ->
         ending: made.ending,
         written: write_output(writer, &out[..made.len]),
     }
-}
-
-// Writes the report as people see it, and nothing else.
-pub fn show<W: Write>(
-    alloc: Global,
-    text: &[u8],
-    colours: bool,
-    writer: &mut W,
-) -> Result<Answered, AllocError>
-    ensures shows { IfOk result (λ answered. ShowsTo colours text.now (W.contents writer.old) (W.contents writer.new) answered) }
-    ensures plain { OnFalse colours (AllPass is_plain_byte (bytes_shown colours text.now)) }
-{
-    match shown::show(alloc, text, colours) {
-        Ok(shown) => Ok(Answered {
-            ending: Ok(Ending::of_responses(shown.passes)),
-            written: write_output(writer, shown.text.as_slice()),
-        }),
-        Err(Unshown::Refused(refusal)) => Ok(Answered {
-            ending: Err(refusal),
-            written: write_output(writer, b""),
-        }),
-        Err(Unshown::NoMemory) => Err(AllocError),
-    }
-}
-
-// The text of a table that a reader has: all of it, or as many bytes as tell that it is too long. What follows is not read.
-pub fn read_text<R: Read>(alloc: Global, reader: &mut R) -> io::Result<Vec<u8>>
-    ensures text { IfOk result (λ text. IsReadOf (R.remaining reader.old) text.items) }
-    ensures taken { IfOk result (λ text. Consumes (R.remaining reader.old) (R.remaining reader.new) text.items) }
-{
-    let mut buf = [0u8; Table::LONGEST_TEXT + 1];
-    let len = read_input(reader, &mut buf)?;
-    Ok(Vec::from_slice(alloc, &buf[..len])?)
 }

@@ -1,8 +1,7 @@
 // The words of a command line, sorted into options and others.
 use crate::ending::Stop;
-use refused::wording;
 use std::alloc::Global;
-use table::fields::is_name;
+use texts::fields::is_name;
 
 // An option that a command may have.
 #[derive(Clone, Copy, PartialEq, Eq)]
@@ -237,19 +236,6 @@ impl Arguments {
         )?))
     }
 
-    // The method at a place, by its number.
-    pub fn method(&self, at: usize) -> Result<u64, Stop> {
-        let word = self.operand(at).unwrap_or(b"");
-        if let Some(number) = method_of(word) {
-            return Ok(number);
-        }
-        let alloc = self.alloc;
-        let word = wording::word(alloc, word)?;
-        Err(Stop::wrong_use(format!(in alloc;
-            "there is no method {word}: it is 0 to 5, or none, ecb-only, ucb-only, ucb-union, ecb-union, combined (12)"
-        )?))
-    }
-
     // The part that an option says as K/N: K, from 1 to N, and N. All is the part 1 of 1.
     pub fn part(&self) -> Result<(u64, u64), Stop> {
         let Some(value) = self.value(Opt::Part) else {
@@ -312,18 +298,5 @@ fn part_of(written: &[u8]) -> Option<(u64, u64)> {
         Some((number, of))
     } else {
         None
-    }
-}
-
-// The method that is written as its number or its name.
-fn method_of(written: &[u8]) -> Option<u64> {
-    for (name, number) in methods::names().iter().zip(0u64..) {
-        if written == name.as_bytes() {
-            return Some(number);
-        }
-    }
-    match written {
-        [digit] if (b'0'..=b'5').contains(digit) => Some((*digit - b'0') as u64),
-        _ => None,
     }
 }

@@ -1,7 +1,6 @@
 // How a command ends, and what standard error is told.
 
 pub use endings::Ending;
-use refused::wording;
 use std::alloc::{AllocError, AllocFailed, Global};
 use std::fmt::Write;
 use std::io;

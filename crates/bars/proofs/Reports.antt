@@ -1,5 +1,5 @@
 -- The picture of a table that is read, from the rows of its answers.
-use Rattle.std.proofs.Common.{◌≡◌, ℕ, ◌+◌, ◌*◌, ◌<◌, ◌≤◌, Bool, cond, List, [], ◌∷◌, ◌++◌, take, length, ap, ap₂, subst, ◌∙◌, append_assoc, Ok}
+use Rattle.std.proofs.Common.{◌≡◌, ℕ, ◌+◌, ◌*◌, ◌<◌, ◌≤◌, Bool, List, [], ◌∷◌, ◌++◌, take, length, ap, ap₂, subst, ◌∙◌, append_assoc, Ok}
 use Rattle.std.specs.Prelude.{flat_map, codes}
 use Rattle.search.specs.declared.demand.Response.{Response}
 use Rattle.search.specs.Positions.{front}
@@ -9,14 +9,12 @@ use Rattle.table.specs.Tables.{at}
 use Rattle.table.specs.Tasks.{limit_of}
 use Rattle.table.specs.Reading.{read_text}
 use Rattle.analysis.specs.declared.rows.Row.{Row}
-use Rattle.analysis.specs.Analysis.{response_of}
+use Rattle.analysis.specs.Analysis.{response_of, numbered}
 use Rattle.analysis.specs.Rows.{row_of, no_row}
 use Rattle.report.specs.VerdictRows.{answers_in}
-use Rattle.report.specs.Verdicts.{method_numbers, verdicts_in, every_verdict}
+use Rattle.report.specs.Verdicts.{method_numbers, verdicts_in}
 use Rattle.report.proofs.Lists.{flat_map-same, methods-are}
-use Rattle.crpd.specs.declared.Outcome.TheVariants.{Passed, SomeUnschedulable}
-use Rattle.crpd.specs.Operations.{numbered, outcome_to}
-use Rattle.crpd.proofs.Rows.{rows-hold, verdicts-are}
+use Rattle.report.proofs.RowAnswers.{rows-hold, verdicts-are}
 use Rattle.drawn.specs.Svg.{sheet_end}
 use Rattle.bars.specs.Bars.{method_drawn, bars_drawn, edge_drawn, name_drawn, limit_drawn, task_drawn, task_top, tasks_drawn, report_sheet, hatch_line, headings_drawn, picture_of, picture_to}
 
@@ -57,11 +55,6 @@ module _ (table : Table) (rows : List Row) (e : rows ≡ front no_row (row_of ta
 
 -- ---- of a text
 
-module _ (text : List ℕ) (table : Table) (read : Ok table ≡ read_text text) where
-  pub text-drawn : (name out : List ℕ) → out ≡ picture_of name table → Ok out ≡ picture_to name text
-  unfolding picture_to
-  text-drawn name out e = rw (← read) (ap Ok e)
-
-  pub text-passes : (passes : Bool) → passes ≡ every_verdict table.count (λ m. response_of table (numbered m)) → cond passes Passed SomeUnschedulable ≡ outcome_to text
-  unfolding outcome_to
-  text-passes passes e = rw (← read) (ap (λ (b : Bool). cond b Passed SomeUnschedulable) e)
+pub text-drawn : (text : List ℕ) (table : Table) → Ok table ≡ read_text text → (name out : List ℕ) → out ≡ picture_of name table → Ok out ≡ picture_to name text
+unfolding picture_to
+text-drawn text table read name out e = rw (← read) (ap Ok e)

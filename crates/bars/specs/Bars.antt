@@ -11,11 +11,10 @@ use Rattle.table.specs.declared.tasks.Task.{Task}
 use Rattle.table.specs.Tasks.{name_text, limit_of}
 use Rattle.table.specs.declared.Table.{Table}
 use Rattle.table.specs.Tables.{at}
-use Rattle.table.specs.declared.refusals.Refusal.{Refusal}
+use Rattle.texts.specs.declared.refusals.Refusal.{Refusal}
 use Rattle.table.specs.Reading.{read_text, ◌>>=◌}
-use Rattle.analysis.specs.Analysis.{response_of}
+use Rattle.analysis.specs.Analysis.{response_of, numbered}
 use Rattle.report.specs.Verdicts.{method_numbers, verdicts_in}
-use Rattle.crpd.specs.Operations.{numbered}
 use Rattle.drawn.specs.declared.svg.Place.{Place}
 use Rattle.bars.specs.declared.Undrawn.{Undrawn}
 use Rattle.bars.specs.declared.Undrawn.TheVariants.{Refused, NoMemory}

@@ -2,18 +2,16 @@
 // told by colours alone. specs/Bars.antt says which figures the picture shows, and where.
 #![tactic(auto)]
 
-ghost use Rattle.std.specs.Prelude.{◌≡◌, ◌≤◌, ◌<◌, ◌+◌, ◌*◌, ◌/◌, ℕ, min, max, pos, List, [], ◌++◌, codes, length, drop, IfOk, IfErr, OnOk, Ok, if◌then◌else◌};
+ghost use Rattle.std.specs.Prelude.{◌≡◌, ◌≤◌, ◌<◌, ◌+◌, ◌*◌, ◌/◌, ℕ, min, max, pos, List, [], ◌++◌, codes, length, drop, IfOk, IfErr, OnOk, Ok};
 ghost use Rattle.std.specs.Str.{chars, encode_utf8_all};
 ghost use Rattle.std.specs.Str.Lossy.{utf8_lossy};
 ghost use Rattle.std.specs.String.{string_bytes};
 ghost use Rattle.search.specs.Least.{AnswerInRange};
 ghost use Rattle.table.specs.Tasks.{name_text, limit_of};
-ghost use Rattle.analysis.specs.Analysis.{response_of};
+ghost use Rattle.analysis.specs.Analysis.{response_of, numbered};
 ghost use Rattle.report.specs.VerdictRows.{answer_under, answers_in};
-ghost use Rattle.report.specs.Verdicts.{every_verdict};
+ghost use Rattle.report.specs.Verdicts.{every_verdict, passes_to};
 ghost use Rattle.report.specs.Rows.{Reportable};
-ghost use Rattle.crpd.specs.Operations.{numbered, outcome_to};
-ghost use Rattle.crpd.specs.declared.Outcome.TheVariants.{Passed, SomeUnschedulable};
 ghost use Rattle.drawn.specs.Svg.{text_so_far};
 ghost use Rattle.bars.specs.Bars.{down_from, bar_length, bar_style, bar_drawn, response_drawn, method_named_left, method_drawn, bars_drawn, edge_drawn, name_drawn, limit_drawn, task_drawn, task_top, tasks_drawn, name_shown, listed_if, passing_text, passing_words, title_drawn, passing_drawn, key_drawn, headings_drawn, report_sheet, picture_of, picture_to, IsWhyUndrawn};
 
@@ -25,8 +23,8 @@ use std::alloc::{AllocError, Global};
 use std::fmt::Write;
 use table::Table;
 use table::accepted::Accepted;
-use table::refusals::Refusal;
 use table::tasks::Task;
+use texts::refusals::Refusal;
 
 // How wide the picture is.
 pub const WIDTH: Tenths = 8600;
@@ -85,7 +83,7 @@ type Done = Result<(), AllocError>;
 // The picture of a text's report; `name` is the table's.
 pub fn picture(alloc: Global, name: &str, text: &[u8]) -> Result<Drawn, Undrawn>
     ensures drawn { IfOk result (λ drawn. Ok (string_bytes drawn.text) ≡ picture_to name.now text.now) }
-    ensures passes { IfOk result (λ drawn. (if drawn.passes then Passed else SomeUnschedulable) ≡ outcome_to text.now) }
+    ensures passes { IfOk result (λ drawn. Ok drawn.passes ≡ passes_to text.now) }
     ensures refused { IfErr result (λ undrawn. IsWhyUndrawn text.now undrawn) }
 {
     let mut table = Table::empty();

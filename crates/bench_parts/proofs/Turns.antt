@@ -1,7 +1,7 @@
 -- A text that is written again leaves what it left the first time.
 use Rattle.std.proofs.Common.{ℕ, zero, suc, ◌+◌, ◌≤◌, add-one, arith, ◌≡◌, refl, ap, Bool, true, false, cond, List, ◌++◌, leb, length, drop, length-append, drop_at, le-leb, leb-true}
 use Rattle.std.specs.Prelude.{Result}
-use Rattle.table.specs.declared.refusals.Refusal.{Refusal}
+use Rattle.texts.specs.declared.refusals.Refusal.{Refusal}
 use Rattle.writing.specs.Delivery.{written_of, buffer_of, DeliversText}
 use Rattle.bench_parts.specs.Parts.{turns, length_of, Repeated}
 

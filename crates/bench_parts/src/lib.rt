@@ -4,7 +4,7 @@
 ghost use Rattle.std.specs.Prelude.{◌≡◌};
 ghost use Rattle.table_text.specs.TableText.{table_text};
 ghost use Rattle.table_text.specs.Readable.{Readable};
-ghost use Rattle.crpd.specs.Operations.{report_in};
+ghost use Rattle.report.specs.Report.{report_in};
 ghost use Rattle.crpd.specs.Codes.{ticks_of};
 ghost use Rattle.bench_parts.specs.Parts.{turns, task_count, first_ticks, answered, length_of, Repeated, length_after, buffer_after};
 
@@ -12,7 +12,7 @@ use analysis::rows;
 use search::demand::Response;
 use table::Table;
 use table::accepted::Accepted;
-use table::refusals::Refusal;
+use texts::refusals::Refusal;
 
 fn ticks(response: Response) -> u64
     ensures { result ≡ ticks_of response }

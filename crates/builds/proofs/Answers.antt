@@ -3,15 +3,15 @@ use Rattle.std.proofs.Common.{◌≡◌, ℕ, ◌≤◌, List, take, length, ari
 use Rattle.analysis.specs.declared.rows.Row.{Row}
 use Rattle.search.specs.Positions.{front}
 use Rattle.table.specs.declared.Table.{Table}
-use Rattle.table.specs.declared.refusals.Refusal.{Refusal}
+use Rattle.texts.specs.declared.refusals.Refusal.{Refusal}
 use Rattle.analysis.specs.Rows.{row_of, no_row}
 use Rattle.writing.specs.Delivery.{PutsText}
 use Rattle.writing.proofs.Deliveries.{fitting}
 use Rattle.report.specs.VerdictRows.{answers_in}
 use Rattle.report.specs.Reported.{DeliversReport}
 use Rattle.report.specs.Verdicts.{verdicts_in}
-use Rattle.crpd.specs.Operations.{report_in}
-use Rattle.crpd.proofs.Rows.{verdicts-are, report-is}
+use Rattle.report.specs.Report.{report_in}
+use Rattle.report.proofs.RowAnswers.{verdicts-are, report-is}
 use Rattle.lists.specs.declared.Fate.TheVariants.{Judged}
 use Rattle.builds.specs.Fates.{judged}
 

@@ -1,11 +1,10 @@
 -- What becomes of a build whose table is read: the verdicts of its report, or its refusal.
 use Rattle.std.specs.Prelude.{ℕ, List, Result, Ok, Err}
-use Rattle.table.specs.declared.refusals.Refusal.{Refusal}
+use Rattle.texts.specs.declared.refusals.Refusal.{Refusal}
 use Rattle.table.specs.declared.Table.{Table}
 use Rattle.table.specs.Reading.{read_text}
-use Rattle.analysis.specs.Analysis.{response_of}
+use Rattle.analysis.specs.Analysis.{response_of, numbered}
 use Rattle.report.specs.Verdicts.{verdicts_in}
-use Rattle.crpd.specs.Operations.{numbered}
 use Rattle.lists.specs.declared.Fate.{Fate}
 use Rattle.lists.specs.declared.Fate.TheVariants.{Refused, Judged}
 

@@ -4,7 +4,8 @@
 ghost use Rattle.std.specs.Prelude.{◌≡◌, ℕ, List, [], ◌++◌, ◌≤◌, ◌<◌, map, length, Option, ◌⊎◌, IsSome, IfSome, IfNone, IfOk, OnOk, OnErr, IsPermutation};
 ghost use Rattle.writing.specs.Delivery.{PutsText};
 ghost use Rattle.writing.specs.Error.{error_text};
-ghost use Rattle.crpd.specs.Operations.{report_in, printed};
+ghost use Rattle.crpd.specs.Operations.{printed};
+ghost use Rattle.report.specs.Report.{report_in};
 ghost use Rattle.spelling.specs.Spelling.{spelled_out};
 ghost use Rattle.lists.specs.Together.{ascending};
 ghost use Rattle.builds.specs.Fates.{judged, fate_of};
@@ -17,7 +18,7 @@ use report::verdicts;
 use std::alloc::{AllocError, Global};
 use table::Table;
 use table::accepted::Accepted;
-use table::refusals::Refusal;
+use texts::refusals::Refusal;
 use writing::delivery;
 use writing::writer::{Draft, ROOM};
 

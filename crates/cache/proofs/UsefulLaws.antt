@@ -17,7 +17,8 @@ use Rattle.cache.specs.Words.{bits_of, members}
 use Rattle.cache.specs.Field.{read_set}
 use Rattle.cache.specs.Counts.{Counts, nothing, capped}
 use Rattle.cache.specs.Levels.{level, above, number_below, set_of, leveled, marked}
-use Rattle.cache.specs.UsefulField.{is_digit, push, read_counts, counts_of, read_useful}
+use Rattle.std.specs.Char.{is_ascii_digit}
+use Rattle.cache.specs.UsefulField.{push, read_counts, counts_of, read_useful}
 use Rattle.cache.proofs.SetLaws.{and_left, and_right}
 use Rattle.cache.proofs.WordLaws.{members-empty, members-words}
 use Rattle.cache.proofs.FieldLaws.{read_below}
@@ -151,9 +152,9 @@ hex-below sets None u e h = let z : ◌≡◌ {A = ℕ} 0 1 = cc in absurd (omeg
 pub useful-below : (form : Form) (sets : ℕ) (f : List ℕ) (u : Useful) → sets % 4 ≡ 0 → read_useful form sets f ≡ Some u → (l s : ℕ) → level u.levels l s ≡ true → s < sets
 unfolding read_useful
 useful-below Hex sets f u by-four e = (hex-below sets (read_set sets f) u e (λ c p. read_below sets f c by-four p)).each
-useful-below (Digits ways) sets f u by-four e = (go (leb sets 256 && eqb (length f) sets && list_all is_digit f) refl e).each
+useful-below (Digits ways) sets f u by-four e = (go (leb sets 256 && eqb (length f) sets && list_all is_ascii_digit f) refl e).each
   where
-    go : (t : Bool) → (leb sets 256 && eqb (length f) sets && list_all is_digit f) ≡ t → cond t (Some (leveled (capped ways (counts_of f)))) None ≡ Some u → Below sets u.levels
+    go : (t : Bool) → (leb sets 256 && eqb (length f) sets && list_all is_ascii_digit f) ≡ t → cond t (Some (leveled (capped ways (counts_of f)))) None ≡ Some u → Below sets u.levels
     go false t e = let z : ◌≡◌ {A = ℕ} 0 1 = cc in absurd (omega arith)
     go true t e =
         let same : leveled (capped ways (counts_of f)) ≡ u = cc in

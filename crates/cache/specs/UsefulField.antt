@@ -1,6 +1,7 @@
 -- What a field of useful blocks says. In the old form it is a field of cache sets, and there is 1 way. Where line 1 names the ways, it has one digit for each
 -- of the table's cache sets, the highest first: so many useful blocks does this one hold.
 use Rattle.std.specs.Prelude.{ℕ, zero, suc, ◌+◌, ◌-◌, ◌*◌, Bool, true, ◌&&◌, List, [], ◌∷◌, length, Option, Some, None, option_map, if◌then◌else◌, nat_le, nat_lt, ◌==◌}
+use Rattle.std.specs.Char.{is_ascii_digit}
 use Rattle.std.specs.List.{list_all}
 use Rattle.cache.specs.declared.useful.Form.{Form}
 use Rattle.cache.specs.declared.useful.Form.TheVariants.{Hex, Digits}
@@ -13,10 +14,6 @@ use Rattle.cache.specs.Levels.{marked, leveled}
 abbrev pub ways_of : Form → ℕ
 ways_of Hex = 1
 ways_of (Digits ways) = ways
-
--- '0' to '9' are 48 to 57
-abbrev pub is_digit : ℕ → Bool
-is_digit b = nat_le 48 b && nat_le b 57
 
 -- one digit more is the count of cache set 0, and the others move up by one
 unfoldable pub push : ℕ → Counts → Counts
@@ -38,7 +35,7 @@ bits_above l n (b ∷ f) = bits_above l (n * 2 + (if nat_lt l (b - 48) then 1 el
 
 -- a digit for each of so many cache sets, and nothing else
 abbrev pub is_counted : ℕ → List ℕ → Bool
-is_counted sets f = nat_le sets 256 && length f == sets && list_all is_digit f
+is_counted sets f = nat_le sets 256 && length f == sets && list_all is_ascii_digit f
 
 -- what a field says in a table of this form with so many cache sets: useful blocks, or nothing. Counts above the ways are refused apart
 unfoldable pub read_useful : Form → ℕ → List ℕ → Option Useful

@@ -2,11 +2,12 @@
 // their size are, specs/Levels.antt which counts a value stands for, and specs/UsefulField.antt what a text field says.
 
 ghost use Rattle.std.specs.Prelude.{◌≡◌, ◌≤◌, ◌<◌, ◌-◌, ◌*◌, min, length, true, ◌&&◌, nat_le, nat_lt};
+ghost use Rattle.std.specs.Char.{is_ascii_digit};
 ghost use Rattle.std.specs.List.{list_all};
 ghost use Rattle.cache.specs.Words.{members};
 ghost use Rattle.cache.specs.Counts.{◌⊕◌, capped, ◌on◌, total};
 ghost use Rattle.cache.specs.Levels.{set_at, counts, above, set_of, leveled, held_levels, marked, Puts};
-ghost use Rattle.cache.specs.UsefulField.{ways_of, is_digit, is_counted, counts_of, bits_above, read_useful, within_ways};
+ghost use Rattle.cache.specs.UsefulField.{ways_of, is_counted, counts_of, bits_above, read_useful, within_ways};
 
 use crate::sets::CacheSet;
 use crate::units::Reloads;
@@ -249,16 +250,9 @@ fn is_counted(field: &[u8], sets: u64) -> bool
 }
 
 fn all_digits(field: &[u8]) -> bool
-    ensures { result ≡ list_all is_digit field.now }
+    ensures { result ≡ list_all is_ascii_digit field.now }
 {
-    field.iter().all(|b| is_digit(*b))
-}
-
-#[tactic(auto, using(std::proofs::lemmas::Bool::Decides::nat_tests))]
-fn is_digit(b: u8) -> bool
-    ensures { result ≡ is_digit b }
-{
-    matches!(b, b'0'..=b'9')
+    field.iter().all(|b| b.is_ascii_digit())
 }
 
 // How many levels are looked at.

@@ -12,8 +12,8 @@ use cache::sets::CacheSet;
 use cache::useful::Useful;
 use table::accepted::Accepted;
 use table::accesses::Access;
-use table::fields::same_bytes;
 use table::tasks::Task;
+use texts::fields::same_bytes;
 
 // How a new table is to an old one, line by line.
 #[derive(Clone, Copy, PartialEq, Eq)]

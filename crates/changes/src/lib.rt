@@ -25,9 +25,9 @@ use search::demand::Response;
 use std::alloc::{AllocError, Global};
 use table::Table;
 use table::accepted::Accepted;
-use table::fields::same_bytes;
-use table::refusals::Refusal;
 use table::tasks::Name;
+use texts::fields::same_bytes;
+use texts::refusals::Refusal;
 
 // A line of a table: line 1, that of a task, or that of an access, by its position among the accesses.
 #[derive(Clone, Copy)]

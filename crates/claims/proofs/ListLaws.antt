@@ -5,13 +5,13 @@ use Rattle.std.proofs.lemmas.List.{drop_more, drop_all, get_or-replicate, get_or
 use Rattle.std.proofs.lemmas.Bool.{cases_lt}
 use Rattle.search.specs.declared.demand.Response.{Response}
 use Rattle.search.specs.declared.demand.Response.TheVariants.{Unschedulable}
-use Rattle.table.specs.declared.refusals.Refusal.{Refusal}
-use Rattle.table.specs.declared.refusals.Fault.{Fault}
-use Rattle.table.specs.declared.refusals.Reason.TheVariants.{ListName}
-use Rattle.table.specs.Cut.{up_to, after}
-use Rattle.table.specs.Faults.{at_field, on_line}
-use Rattle.table.specs.Rows.{Conditions, unless_fault}
-use Rattle.table.proofs.RowLaws.{fault-any, fine-any}
+use Rattle.texts.specs.declared.refusals.Refusal.{Refusal}
+use Rattle.texts.specs.declared.refusals.Fault.{Fault}
+use Rattle.texts.specs.declared.refusals.Reason.TheVariants.{ListName}
+use Rattle.texts.specs.Cut.{up_to, after}
+use Rattle.texts.specs.Faults.{at_field, on_line}
+use Rattle.texts.specs.Rows.{Conditions, unless_fault}
+use Rattle.texts.proofs.RowLaws.{fault-any, fine-any}
 use Rattle.table.specs.declared.tasks.Task.{Task}
 use Rattle.table.specs.Tasks.{blank, name_text}
 use Rattle.table.proofs.ToldLines.{ToldBy}

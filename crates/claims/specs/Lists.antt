@@ -3,13 +3,13 @@ use Rattle.std.specs.Prelude.{ℕ, ◌+◌, ◌≤◌, ◌≡◌, Bool, true, no
 use Rattle.std.specs.Str.{bytes_eq}
 use Rattle.search.specs.declared.demand.Response.{Response}
 use Rattle.search.specs.declared.demand.Response.TheVariants.{Within, Unschedulable}
-use Rattle.table.specs.Cut.{up_to, after, field}
-use Rattle.table.specs.Fields.{read_number, is_of_kind, has_shape, is_name}
-use Rattle.table.specs.declared.refusals.Reason.TheVariants.{ListLine, ListName}
-use Rattle.table.specs.declared.refusals.Fault.{Fault}
-use Rattle.table.specs.declared.refusals.Refusal.{Refusal}
-use Rattle.table.specs.Faults.{at_field, no_field}
-use Rattle.table.specs.Rows.{Conditions, unless_fault}
+use Rattle.texts.specs.Cut.{up_to, after, field}
+use Rattle.texts.specs.Fields.{read_number, is_of_kind, has_shape, is_name}
+use Rattle.texts.specs.declared.refusals.Reason.TheVariants.{ListLine, ListName}
+use Rattle.texts.specs.declared.refusals.Fault.{Fault}
+use Rattle.texts.specs.declared.refusals.Refusal.{Refusal}
+use Rattle.texts.specs.Faults.{at_field, no_field}
+use Rattle.texts.specs.Rows.{Conditions, unless_fault}
 use Rattle.table.specs.declared.tasks.Task.{Task}
 use Rattle.table.specs.Tasks.{name_text}
 use Rattle.table.specs.declared.Table.{Table}

@@ -3,7 +3,7 @@ use Rattle.std.specs.Prelude.{ℕ, ◌≤◌, List, [], ◌∷◌, length, flat_
 use Rattle.search.specs.declared.demand.Response.{Response}
 use Rattle.search.specs.declared.demand.Response.TheVariants.{Within}
 use Rattle.search.specs.Positions.{between}
-use Rattle.table.specs.declared.refusals.Refusal.{Refusal}
+use Rattle.texts.specs.declared.refusals.Refusal.{Refusal}
 use Rattle.table.specs.declared.tasks.Task.{Task}
 use Rattle.table.specs.Tasks.{name_text}
 use Rattle.table.specs.declared.Table.{Table}

@@ -14,8 +14,8 @@ use crate::finding::{Finding, judge};
 use analysis::Method;
 use search::demand::Response;
 use table::accepted::Accepted;
-use table::refusals::Refusal;
 use table::tasks::Task;
+use texts::refusals::Refusal;
 use writing::delivery::deliver;
 use writing::writer::{Draft, Text};
 

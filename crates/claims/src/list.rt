@@ -2,18 +2,19 @@
 // which refusal it is given.
 
 ghost use Rattle.std.specs.Prelude.{◌≡◌, ◌+◌, false, MatchOption, MatchResult, IfOk, Ok, Err, take, codes};
-ghost use Rattle.table.specs.Fields.{has_shape};
-ghost use Rattle.table.specs.Rows.{unless_fault};
+ghost use Rattle.texts.specs.Fields.{has_shape};
+ghost use Rattle.texts.specs.Rows.{unless_fault};
 ghost use Rattle.table.specs.Tables.{at};
 ghost use Rattle.table.specs.Reading.{told, then_read};
 ghost use Rattle.claims.specs.Lists.{read_claim, AreListFields, list_line_checked, BeginsWithLine, first_claim, end_of_list_rows, claims_in, NoneFrom};
 
 use cache::units::Ticks;
 use search::demand::Response;
+use table::Table;
 use table::accepted::{Accepted, Pending};
-use table::refusals::{Fault, Reason, Refusal};
-use table::text::Fields;
-use table::{Table, fields, text};
+use texts::fields;
+use texts::lines::{Fields, first_field, next_line};
+use texts::refusals::{Fault, Reason, Refusal};
 
 // What a list line says: of whom, and which response is claimed.
 #[derive(Clone, Copy)]
@@ -57,12 +58,12 @@ fn cut(line: &[u8]) -> Option<ListFields<'_>>
 }
 
 // What the first line of a list says, and the list below it, where it is ended and a list line.
-#[tactic(auto, using(std::proofs::lemmas::Bool::Decides::nat_tests), unfolding(table::specs::Rows::unless_fault))]
+#[tactic(auto, using(std::proofs::lemmas::Bool::Decides::nat_tests), unfolding(texts::specs::Rows::unless_fault))]
 fn first_line(list: &[u8]) -> Result<(Claimed<'_>, &[u8]), Fault>
     ensures { MatchResult result (λ first. BeginsWithLine list.now first.0 first.1.now) (λ fault. list_line_checked list.now ≡ Err fault) }
 {
-    let (line, below) = text::next_line(list);
-    if text::first_field(line) != b"R".as_slice() {
+    let (line, below) = next_line(list);
+    if first_field(line) != b"R".as_slice() {
         return Err(Reason::ListLine.at(0));
     }
     let ListFields { name, claim } = cut(line).ok_or(Reason::ListLine.at(3))?;
@@ -77,7 +78,7 @@ fn first_line(list: &[u8]) -> Result<(Claimed<'_>, &[u8]), Fault>
 }
 
 // What the first line of a list claims of the task at i, and the list below it, or why it is refused. It is line i + 1 of the whole list.
-#[tactic(auto, using(std::proofs::lemmas::Bool::Decides::nat_tests), unfolding(crate::specs::Lists::first_claim, crate::specs::Lists::claim_rows, table::specs::Rows::unless_fault))]
+#[tactic(auto, using(std::proofs::lemmas::Bool::Decides::nat_tests), unfolding(crate::specs::Lists::first_claim, crate::specs::Lists::claim_rows, texts::specs::Rows::unless_fault))]
 fn next_claim<'a>(list: &'a [u8], pending: Pending) -> Result<(Response, &'a [u8]), Refusal>
     ensures { first_claim (pending.entry.i + 1) (at pending.entry.table.now pending.entry.i) list.now ≡ then_read result (λ next. Ok (next.0, next.1.now)) }
 {
@@ -96,7 +97,7 @@ fn next_claim<'a>(list: &'a [u8], pending: Pending) -> Result<(Response, &'a [u8
 }
 
 // Whether a list may end with the line above this one: nothing stands there any more.
-#[tactic(auto, using(std::proofs::lemmas::Bool::Decides::nat_tests), unfolding(crate::specs::Lists::end_of_list_rows, table::specs::Rows::unless_fault))]
+#[tactic(auto, using(std::proofs::lemmas::Bool::Decides::nat_tests), unfolding(crate::specs::Lists::end_of_list_rows, texts::specs::Rows::unless_fault))]
 fn check_end(list: &[u8], line: u64) -> Result<(), Refusal>
     ensures { result ≡ told line (unless_fault (end_of_list_rows list.now) tt) }
 {

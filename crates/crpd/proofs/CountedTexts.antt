@@ -1,7 +1,7 @@
 -- The same way where line 1 names the ways: table A in the counted form with 1 way, and a count above the ways, which is refused with 18.
 use Rattle.std.proofs.Common.{◌≡◌, refl, ℕ, List, ◌++◌, codes}
-use Rattle.table.specs.Cut.{up_to, lines}
-use Rattle.table.specs.Fields.{read_digits, read_number, has_shape, is_name}
+use Rattle.texts.specs.Cut.{up_to, lines}
+use Rattle.texts.specs.Fields.{read_digits, read_number, has_shape, is_name}
 use Rattle.cache.specs.Hex.{hex_digit, read_hex}
 use Rattle.cache.specs.Field.{read_set}
 use Rattle.cache.specs.Sets.{∅, ◌∪◌, ◌∩◌, size_below, size}
@@ -9,7 +9,7 @@ use Rattle.cache.specs.Counts.{nothing, of_set, ◌⊕◌, capped, ◌on◌, tot
 use Rattle.cache.specs.Levels.{heights, above, number_below}
 use Rattle.cache.specs.UsefulField.{push, read_counts, read_useful, within_ways}
 use Rattle.cache.specs.Words.{number_of, members, words_of}
-use Rattle.table.specs.Rows.{unless_fault}
+use Rattle.texts.specs.Rows.{unless_fault}
 use Rattle.table.specs.HeadLine.{is_head, read_form, head_in_range}
 use Rattle.table.specs.TaskLine.{times_in_range, times_in_order, task_said, task_rows}
 use Rattle.table.specs.Reading.{ended, first_blocked, unless_blocked, read_from, read_lines, read_text}

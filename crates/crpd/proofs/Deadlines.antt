@@ -2,9 +2,9 @@
 use Rattle.std.proofs.Common.{◌≡◌, ℕ, ◌∙◌, List, take, Option, Some, None, Result, Ok, Err, ok_or}
 use Rattle.std.specs.List.{All}
 use Rattle.cache.specs.declared.units.Ticks.{Ticks}
-use Rattle.table.specs.declared.refusals.Refusal.{Refusal}
-use Rattle.table.specs.declared.refusals.Reason.TheVariants.{LongHyperperiod}
-use Rattle.table.specs.Numbers.{untold}
+use Rattle.texts.specs.declared.refusals.Refusal.{Refusal}
+use Rattle.texts.specs.declared.refusals.Reason.TheVariants.{LongHyperperiod}
+use Rattle.texts.specs.Numbers.{untold}
 use Rattle.table.specs.declared.Table.{Table}
 use Rattle.table.proofs.AcceptedLaws.{accepted-table}
 use Rattle.edf.specs.declared.Verdict.{Verdict}

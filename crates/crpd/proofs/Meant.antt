@@ -2,8 +2,8 @@
 use Rattle.std.proofs.Common.{ℕ, List, ◌≡◌, refl, ◌∙◌, Option, Result}
 use Rattle.std.proofs.lemmas.Bool.{le-ltb, lt-leb}
 use Rattle.search.specs.declared.demand.Response.{Response}
-use Rattle.table.specs.declared.refusals.Refusal.{Refusal}
-use Rattle.analysis.specs.Analysis.{response_of}
+use Rattle.texts.specs.declared.refusals.Refusal.{Refusal}
+use Rattle.analysis.specs.Analysis.{response_of, numbered}
 use Rattle.analysis.proofs.ResponseLaws.{response-promised}
 use Rattle.growth.specs.Growth.{growth_of}
 use Rattle.growth.proofs.BoundaryLaws.{is-growth}
@@ -13,7 +13,7 @@ use Rattle.table.proofs.AcceptedLaws.{accepted-table}
 use Rattle.replay.specs.Replay.{first_end}
 use Rattle.replay.proofs.MachineLaws.{first-means}
 use Rattle.crpd.proofs.PlainLaws.{plain-passes}
-use Rattle.crpd.specs.Operations.{numbered, answer_to, growth_to, replay_to}
+use Rattle.crpd.specs.Operations.{answer_to, growth_to, replay_to}
 use Rattle.crpd.specs.Meanings.{IsTextResponse, IsTextGrowth, IsTextReplay}
 use Rattle.crpd.proofs.ReplayLaws.{replay-is-response}
 

@@ -16,14 +16,13 @@ use Rattle.table.specs.Tables.{tasks_of, at}
 use Rattle.table.specs.Accepted.{AcceptedTable}
 use Rattle.analysis.specs.declared.costs.Single.TheVariants.{None as NoReloads}
 use Rattle.analysis.specs.Costs.{reloads_with, term_at}
-use Rattle.analysis.specs.Analysis.{response_of}
+use Rattle.analysis.specs.Analysis.{response_of, numbered}
 use Rattle.analysis.proofs.AnswerLaws.{plain-answer}
 use Rattle.replay.specs.Replay.{with_job, release, run_job, run_highest, jobs_after, is_first_done, first_done_at, end_from, first_end}
 use Rattle.replay.specs.Tally.{Runnable, due, work_at}
 use Rattle.crpd.specs.Plain.{Plain}
 use Rattle.replay.proofs.MachineLaws.{sum-cons, sum-snoc, sum-run, run-zero, run-suc}
 use Rattle.replay.proofs.LoopLaws.{tasks-long, tasks-runnable}
-use Rattle.crpd.specs.Operations.{numbered}
 use Rattle.crpd.specs.Meanings.{end_by}
 
 -- a task that may be replayed, and that has no jitter

@@ -4,11 +4,11 @@ use Rattle.cache.specs.declared.units.TheConstants.Ticks.{LONGEST}
 use Rattle.cache.specs.declared.units.Ticks.{Ticks}
 use Rattle.search.specs.declared.demand.Response.{Response}
 use Rattle.search.specs.declared.demand.Response.TheVariants.{Within, Unschedulable}
-use Rattle.table.specs.declared.refusals.Refusal.{Refusal}
+use Rattle.texts.specs.declared.refusals.Refusal.{Refusal}
 use Rattle.table.specs.declared.Table.{Table}
 use Rattle.table.specs.Tables.{tasks_of, at}
 use Rattle.table.specs.Reading.{read_text}
-use Rattle.analysis.specs.Analysis.{response_of}
+use Rattle.analysis.specs.Analysis.{response_of, numbered}
 use Rattle.analysis.specs.Responses.{IsResponse}
 use Rattle.growth.specs.Boundary.{IsGrowth}
 use Rattle.edf.specs.declared.Verdict.{Verdict}
@@ -18,7 +18,6 @@ use Rattle.edf.specs.Verdicts.{IsVerdict}
 use Rattle.replay.specs.declared.TheConstants.{LONGEST_REPLAY}
 use Rattle.crpd.specs.Plain.{Plain}
 use Rattle.replay.specs.Replay.{EndsFirst}
-use Rattle.crpd.specs.Operations.{numbered}
 
 -- the text is accepted as this table
 abbrev pub ReadsAs : List ℕ → Table → Type 0

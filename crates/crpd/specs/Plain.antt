@@ -1,9 +1,9 @@
 -- Plain tables, of which no task has a jitter above 0, and that have no access; and the refusals of others.
 use Rattle.std.specs.Prelude.{ℕ, ◌+◌, ◌≡◌, ◌<◌, Option, Some, None, Result, Ok, Err, position, option_map, if◌then◌else◌, nat_lt, ⊤}
-use Rattle.table.specs.declared.refusals.Fault.{Fault}
-use Rattle.table.specs.declared.refusals.Reason.TheVariants.{HasJitter, HasAccess}
-use Rattle.table.specs.declared.refusals.Refusal.{Refusal}
-use Rattle.table.specs.Faults.{at_field, on_line}
+use Rattle.texts.specs.declared.refusals.Fault.{Fault}
+use Rattle.texts.specs.declared.refusals.Reason.TheVariants.{HasJitter, HasAccess}
+use Rattle.texts.specs.declared.refusals.Refusal.{Refusal}
+use Rattle.texts.specs.Faults.{at_field, on_line}
 use Rattle.table.specs.declared.Table.{Table}
 use Rattle.table.specs.Tables.{tasks_of, at}
 use Rattle.table.specs.Reading.{◌>>=◌}

@@ -6,7 +6,7 @@ ghost use Rattle.crpd.specs.Plain.{plain_checked};
 
 use table::Table;
 use table::accepted::Accepted;
-use table::refusals::{Reason, Refusal};
+use texts::refusals::{Reason, Refusal};
 
 // The number of the first task line: line 1 stands above it.
 const FIRST_TASK_LINE: u64 = 2;

@@ -1,34 +1,42 @@
 // The commands that ask one question of one table.
-use answered::{Answered, Question};
+use answered::Question;
 use asked::arguments::{Arguments, Asked, Opt};
 use asked::ending::{Ending, Outcome, Stop};
 use bars::Undrawn;
-use files::{Input, deliver, progress};
-use refused::wording;
+use command_line::{ended, refused_stop};
+use console::Input;
+use files::deliver;
 use std::alloc::{AllocError, Global};
 use std::fmt::Write as _;
-use std::io::IsTerminal;
 use table::Table;
-use table::refusals::Refusal;
 
-pub fn refused_stop(alloc: Global, input: &Input, refusal: Refusal) -> Stop {
-    match refused::told(alloc, input.name.as_str(), input.text.as_slice(), refusal) {
-        Ok(message) => Stop::refused(message),
-        Err(error) => Stop::from(error),
+// The method that an operand names, by its number.
+pub fn method(alloc: Global, arguments: &Arguments, at: usize) -> Result<u64, Stop> {
+    let word = arguments.operand(at).unwrap_or(b"");
+    if let Some(number) = method_of(word) {
+        return Ok(number);
+    }
+    let word = wording::word(alloc, word)?;
+    Err(Stop::wrong_use(format!(in alloc;
+        "there is no method {word}: it is 0 to 5, or none, ecb-only, ucb-only, ucb-union, ecb-union, combined (12)"
+    )?))
+}
+
+// The method that is written as its number or its name.
+fn method_of(written: &[u8]) -> Option<u64> {
+    for (name, number) in methods::names().iter().zip(0u64..) {
+        if written == name.as_bytes() {
+            return Some(number);
+        }
+    }
+    match written {
+        [digit] if (b'0'..=b'5').contains(digit) => Some((*digit - b'0') as u64),
+        _ => None,
     }
 }
 
 pub fn all_pass(verdicts: [bool; 6]) -> bool {
     verdicts.iter().all(|passes| *passes)
-}
-
-// How a command ends whose question was answered.
-fn ended(rt: &HostRuntime, input: &Input, answered: Answered) -> Outcome {
-    files::is_written(rt.alloc(), answered.written)?;
-    match answered.ending {
-        Ok(ending) => Ok(ending),
-        Err(refusal) => Err(refused_stop(rt.alloc(), input, refusal)),
-    }
 }
 
 // Answers a question about a text, on standard output.
@@ -40,27 +48,9 @@ pub fn ask(rt: &HostRuntime, input: &Input, question: Question) -> Outcome {
 pub fn report(rt: &HostRuntime, arguments: &Arguments) -> Outcome {
     ask(
         rt,
-        &files::read(rt, arguments.operand(0))?,
+        &console::read(rt, arguments.operand(0))?,
         Question::Report,
     )
-}
-
-// Colours are for a terminal alone, and not for those who do not want them.
-fn has_colours(rt: &HostRuntime) -> bool {
-    let wanted = match std::env::var(rt, "NO_COLOR") {
-        Ok(value) => value.as_str().is_empty(),
-        Err(std::env::VarError::NotPresent) => true,
-        Err(_) => false,
-    };
-    wanted && progress::is_lively(rt, rt.stdout().is_terminal())
-}
-
-pub fn show(rt: &HostRuntime, arguments: &Arguments) -> Outcome {
-    let input = files::read(rt, arguments.operand(0))?;
-    let colours = has_colours(rt);
-    let text = input.text.as_slice();
-    let answered = answered::show(rt.alloc(), text, colours, &mut rt.stdout())?;
-    ended(rt, &input, answered)
 }
 
 // Refuses an output that is the table itself.
@@ -82,7 +72,7 @@ pub fn spare_input(
 pub fn plot(rt: &HostRuntime, arguments: &Arguments) -> Outcome {
     let alloc = rt.alloc();
     let (file, out) = (arguments.operand(0), files::output(rt, arguments)?);
-    let input = files::read(rt, file)?;
+    let input = console::read(rt, file)?;
     spare_input(rt, &input, file, out)?;
     match bars::picture(alloc, input.name.as_str(), input.text.as_slice()) {
         Ok(drawn) => {
@@ -135,15 +125,15 @@ fn counted(
 }
 
 pub fn answer(rt: &HostRuntime, arguments: &Arguments) -> Outcome {
-    let (method, asked) = (arguments.method(0)?, arguments.task(1)?);
-    let input = files::read(rt, arguments.operand(2))?;
+    let (method, asked) = (method(rt.alloc(), arguments, 0)?, arguments.task(1)?);
+    let input = console::read(rt, arguments.operand(2))?;
     let position = position(rt.alloc(), &input, asked)?;
     ask(rt, &input, Question::Answer { method, position })
 }
 
 pub fn explain(rt: &HostRuntime, arguments: &Arguments) -> Outcome {
-    let (method, asked) = (arguments.method(0)?, arguments.task(1)?);
-    let input = files::read(rt, arguments.operand(2))?;
+    let (method, asked) = (method(rt.alloc(), arguments, 0)?, arguments.task(1)?);
+    let input = console::read(rt, arguments.operand(2))?;
     let position = position(rt.alloc(), &input, asked)?;
     if arguments.has(Opt::Words) {
         explain_in_words(rt, &input, method, position)
@@ -159,13 +149,13 @@ fn explain_in_words(rt: &HostRuntime, input: &Input, method: u64, position: u64)
 }
 
 pub fn growth(rt: &HostRuntime, arguments: &Arguments) -> Outcome {
-    let method = arguments.method(0)?;
-    let input = files::read(rt, arguments.operand(1))?;
+    let method = method(rt.alloc(), arguments, 0)?;
+    let input = console::read(rt, arguments.operand(1))?;
     ask(rt, &input, Question::Growth { method })
 }
 
 pub fn scaled(rt: &HostRuntime, arguments: &Arguments) -> Outcome {
-    let method = arguments.method(0)?;
-    let input = files::read(rt, arguments.operand(1))?;
+    let method = method(rt.alloc(), arguments, 0)?;
+    let input = console::read(rt, arguments.operand(1))?;
     ask(rt, &input, Question::Scaled { method })
 }

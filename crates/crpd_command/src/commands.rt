@@ -2,6 +2,7 @@
 use crate::{answers, compared, deadlines, dossiers, evaluate, help, partner, pool, replays};
 use asked::arguments::{Arguments, Form, Opt};
 use asked::ending::Outcome;
+use command_line::{Manual, show};
 
 #[derive(Clone, Copy, PartialEq, Eq)]
 pub enum Command {
@@ -110,7 +111,7 @@ impl Command {
         }
     }
 
-    pub fn usage(self) -> &'static str {
+    fn usage(self) -> &'static str {
         match self {
             Command::Report => "report [FILE]",
             Command::Answer => "answer METHOD TASK [FILE]",
@@ -120,7 +121,7 @@ impl Command {
             Command::Check => "check [--words] METHOD LIST [FILE]",
             Command::Edf => "edf [--words] [FILE]",
             Command::Replay => "replay TASK [FILE] [-o OUT.svg]",
-            Command::Show => "show [FILE]",
+            Command::Show => show::MANUAL.usage,
             Command::Plot => "plot [FILE] -o OUT.svg",
             Command::Dossier => "dossier [FILE] -o PAGE.html | FOLDER",
             Command::Reports => "reports [--part K/N] [-o LIST] FOLDER",
@@ -150,7 +151,7 @@ impl Command {
         }
     }
 
-    pub fn lesson(self) -> &'static str {
+    fn lesson(self) -> &'static str {
         match self {
             Command::Report => help::REPORT,
             Command::Answer => help::ANSWER,
@@ -160,7 +161,7 @@ impl Command {
             Command::Check => help::CHECK,
             Command::Edf => help::EDF,
             Command::Replay => help::REPLAY,
-            Command::Show => help::SHOW,
+            Command::Show => show::MANUAL.lesson,
             Command::Plot => help::PLOT,
             Command::Dossier => help::DOSSIER,
             Command::Reports => help::REPORTS,
@@ -170,9 +171,10 @@ impl Command {
         }
     }
 
-    pub fn form(self) -> Form {
+    fn form(self) -> Form {
         match self {
-            Command::Report | Command::Show => PLAIN,
+            Command::Report => PLAIN,
+            Command::Show => show::MANUAL.form,
             Command::Answer => task_form(&[]),
             Command::Explain => task_form(&[Opt::Words]),
             Command::Growth | Command::Scaled => operands(1, 2, &[]),
@@ -190,6 +192,14 @@ impl Command {
         }
     }
 
+    pub fn manual(self) -> Manual {
+        Manual {
+            usage: self.usage(),
+            lesson: self.lesson(),
+            form: self.form(),
+        }
+    }
+
     pub fn run(self, rt: &HostRuntime, arguments: &Arguments) -> Outcome {
         match self {
             Command::Report => answers::report(rt, arguments),
@@ -200,7 +210,7 @@ impl Command {
             Command::Check => partner::check(rt, arguments),
             Command::Edf => deadlines::edf(rt, arguments),
             Command::Replay => replays::replay(rt, arguments),
-            Command::Show => answers::show(rt, arguments),
+            Command::Show => show::show(rt, arguments),
             Command::Plot => answers::plot(rt, arguments),
             Command::Dossier => dossiers::dossier(rt, arguments),
             Command::Reports => pool::reports(rt, arguments),

@@ -4,13 +4,14 @@ use asked::ending::{Ending, Outcome, Stop};
 use builds::{Build, Folder};
 use change_lines::pairs::{self, Places};
 use changes::{Comparison, Source};
+use console::{Input, print, tell};
+use files::Parts;
 use files::disk::{Disk, Found};
 use files::progress::Progress;
-use files::{Input, Parts, print, tell};
 use lists::Fate;
 use std::alloc::{AllocError, Global};
 use table::Table;
-use table::refusals::Refusal;
+use texts::refusals::Refusal;
 use worded::moved::{self, Counts};
 
 pub fn changes(rt: &HostRuntime, arguments: &Arguments) -> Outcome {
@@ -87,10 +88,10 @@ impl Told {
 
 fn in_files(rt: &HostRuntime, old: &[u8], new: &[u8], told: &mut Told) -> Result<(), Stop> {
     let alloc = rt.alloc();
-    if files::named(Some(old)).is_none() && files::named(Some(new)).is_none() {
+    if console::named(Some(old)).is_none() && console::named(Some(new)).is_none() {
         return Err(Stop::wrong(alloc, "OLD and NEW are both standard input"));
     }
-    let (old, input) = (files::read(rt, Some(old))?, files::read(rt, Some(new))?);
+    let (old, input) = (console::read(rt, Some(old))?, console::read(rt, Some(new))?);
     let name = spelling::spelled_out(alloc, new)?;
     let found = changes::compare(
         alloc,

@@ -1,16 +1,17 @@
 // Earliest deadline first: whether every job ends by its deadline.
-use crate::answers::{ask, refused_stop};
+use crate::answers::ask;
 use answered::Question;
 use asked::arguments::{Arguments, Opt};
 use asked::ending::{Ending, Outcome};
+use command_line::refused_stop;
+use console::{Input, print};
 use edf::Verdict;
-use files::{Input, print};
 use table::Table;
 use table::accepted::Accepted;
 use worded::overrun;
 
 pub fn edf(rt: &HostRuntime, arguments: &Arguments) -> Outcome {
-    let input = files::read(rt, arguments.operand(0))?;
+    let input = console::read(rt, arguments.operand(0))?;
     if arguments.has(Opt::Words) {
         in_words(rt, &input)
     } else {

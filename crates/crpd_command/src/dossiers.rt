@@ -1,16 +1,18 @@
 // The dossier of a table, or those of all tables below a folder: a page each, NAME.html beside NAME.table.
 ghost use Rattle.std.specs.Prelude.{None};
 
-use crate::answers::{refused_stop, spare_input};
+use crate::answers::spare_input;
 use crate::pool::ending_of;
 use crate::version;
 use asked::arguments::{Arguments, Opt};
 use asked::ending::{Ending, Outcome, Stop};
 use builds::{Build, Folder, Part, Unread, Unwritten};
+use command_line::refused_stop;
+use console::{print, tell};
 use dossier::{Proved, Unmade};
 use files::disk::{Disk, Found};
 use files::progress::Progress;
-use files::{Parts, deliver, print, tell};
+use files::{Parts, deliver};
 use lists::Fate;
 use std::alloc::AllocError;
 
@@ -35,7 +37,7 @@ fn of_table(rt: &HostRuntime, arguments: &Arguments) -> Outcome {
         ));
     }
     let (file, out) = (arguments.operand(0), files::output(rt, arguments)?);
-    let input = files::read(rt, file)?;
+    let input = console::read(rt, file)?;
     spare_input(rt, &input, file, out)?;
     match dossier::page(alloc, input.text.as_slice(), PROVED) {
         Ok(made) => {

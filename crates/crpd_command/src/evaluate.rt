@@ -1,9 +1,10 @@
 // The command that does the paper's evaluation again.
 use asked::arguments::{Arguments, Opt};
 use asked::ending::{Ending, Outcome, Stop};
+use console::print;
 use evaluated::{Failure, Setting, Watcher, chart, figures};
+use files::deliver;
 use files::progress::{self, Progress};
-use files::{deliver, print};
 use std::alloc::AllocError;
 use std::fmt::Write as _;
 

@@ -30,9 +30,6 @@ pub const EDF: &str =
 pub const REPLAY: &str =
     "Prints when the first job of a task ends in a replay tick by tick, by a machine\nthat knows no equation: all tasks release a job at tick 0 and then every period,\nand each tick runs the highest task that has work. Where the job is unfinished\nat its deadline it prints -, and the status is 1. It is the response under none.\n\nWith -o it draws the ticks until then: a row for each task, with its jobs as\nbars, and marks where they are released, due, at an end, and pre-empted. With\n-o - the picture goes to standard output. Any browser shows it.\n\nA table with a jitter above 0 or an access is refused, and a deadline of the\ntask above 100,000.\n\nExamples:\n  $ crpd replay b examples/two-solutions.table\n  5\n  $ crpd replay b examples/two-solutions.table -o replay.svg\n";
 
-pub const SHOW: &str =
-    "Prints the report as a table with headings: each task's limit (deadline less\njitter) and its responses, - where there is none, and below which methods\npass, that is, leave every task a response. Colours are used on a terminal\nonly, and not where NO_COLOR is set.\n\nExample:\n  $ crpd show examples/controller.table\n  task    limit  none  ecb-only  ucb-only  ucb-union  ecb-union  combined\n  valve     200    40        40        40         40         40        40\n  motor     500   140       180       170        170        170       170\n  log      1000   660         -         -        960        910       910\n  passes          yes        no        no        yes        yes       yes\n";
-
 pub const PLOT: &str =
     "Draws the report: for each task a bar for each method, as long as the response\nis of the task's limit, with its number; a hatched bar where there is none.\nWith -o - the picture goes to standard output. Any browser shows it.\n\nExample:\n  $ crpd plot examples/controller.table -o controller.svg\n";
 

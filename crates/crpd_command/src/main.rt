@@ -14,61 +14,14 @@ mod replays;
 mod version;
 
 use crate::commands::Command;
-use asked::arguments;
 use asked::ending::{Ending, Outcome, Stop};
-use refused::wording;
+use command_line::{conclude, given, print_help, words};
 use std::alloc::{AllocError, Global};
-use std::env::FillError;
 use std::fmt::Write as _;
 use std::process::ExitCode;
-use std::rt::Env;
 
 fn main(rt: HostRuntime) -> ExitCode {
-    match run(&rt) {
-        Ok(ending) => ExitCode::from(ending.status()),
-        Err(stop) => {
-            let ending = stop.ending;
-            tell_why(&rt, &stop.message);
-            ExitCode::from(ending.status())
-        }
-    }
-}
-
-fn tell_why(rt: &HostRuntime, message: &Option<String>) {
-    match message {
-        Some(message) => files::tell(rt, message.as_str()),
-        None => files::tell(rt, "there is no memory left"),
-    }
-}
-
-// The longest word that Linux hands on.
-const LONGEST: usize = 131_072;
-
-// The words of the command line, which may be any bytes.
-fn words(rt: &HostRuntime) -> Result<Vec<Vec<u8>>, Stop> {
-    let alloc = rt.alloc();
-    let mut words = Vec::new(alloc);
-    let mut short = [0u8; 4096];
-    for at in 1..usize::MAX {
-        match rt.arg(at, &mut short) {
-            Ok(len) => words.push(Vec::from_slice(alloc, &short[..len])?)?,
-            Err(FillError::NotPresent) => break,
-            Err(FillError::TooLong) => words.push(long_word(rt, at)?)?,
-        }
-    }
-    Ok(words)
-}
-
-fn long_word(rt: &HostRuntime, at: usize) -> Result<Vec<u8>, Stop> {
-    let alloc = rt.alloc();
-    let mut long = vec![in alloc; 0u8; LONGEST]?;
-    match rt.arg(at, long.as_mut_slice()) {
-        Ok(len) => {
-            long.truncate(len);
-            Ok(long)
-        }
-        Err(_) => Err(Stop::wrong(alloc, "an argument is too long")),
-    }
+    conclude(&rt, run(&rt))
 }
 
 fn run(rt: &HostRuntime) -> Outcome {
@@ -95,29 +48,9 @@ fn is_help(word: &[u8]) -> bool {
 }
 
 fn perform(rt: &HostRuntime, command: Command, words: &[Vec<u8>]) -> Outcome {
-    let arguments = match arguments::sorted(rt.alloc(), command.form(), words) {
-        Ok(arguments) => arguments,
-        Err(stop) => return Err(taught(rt.alloc(), command, stop)),
-    };
-    if arguments.wants_help {
-        return print_help(rt, command);
-    }
-    command.run(rt, &arguments)
-}
-
-// What is wrong, and below it how the command is used.
-fn taught(alloc: Global, command: Command, stop: Stop) -> Stop {
-    let usage = command.usage();
-    let message = match &stop.message {
-        Some(message) => {
-            let message = message.as_str();
-            format!(in alloc; "{message}\nusage: crpd {usage}")
-        }
-        None => Err(AllocError),
-    };
-    match message {
-        Ok(message) => Stop::wrong_use(message),
-        Err(error) => Stop::from(error),
+    match given(rt, command.manual(), words)? {
+        Some(arguments) => command.run(rt, &arguments),
+        None => Ok(Ending::Given),
     }
 }
 
@@ -131,13 +64,6 @@ fn no_command(alloc: Global, name: &[u8]) -> Stop {
         },
         Err(error) => Stop::from(error),
     }
-}
-
-fn print_help(rt: &HostRuntime, command: Command) -> Outcome {
-    let (usage, lesson) = (command.usage(), command.lesson());
-    let text = format!(in rt.alloc(); "usage: crpd {usage}\n\n{lesson}")?;
-    files::print(rt, text.as_str().as_bytes())?;
-    Ok(Ending::Given)
 }
 
 fn overview(alloc: Global) -> Result<String, AllocError> {
@@ -156,13 +82,13 @@ fn teach(rt: &HostRuntime, words: &[Vec<u8>]) -> Outcome {
         [name] if is_help(name.as_slice()) => {}
         [name] => {
             return match commands::find(name.as_slice()) {
-                Some(command) => print_help(rt, command),
+                Some(command) => print_help(rt, command.manual()),
                 None => Err(no_command(rt.alloc(), name.as_slice())),
             };
         }
         _ => return Err(Stop::wrong(rt.alloc(), "crpd help takes one command")),
     }
-    files::print(rt, overview(rt.alloc())?.as_str().as_bytes())?;
+    console::print(rt, overview(rt.alloc())?.as_str().as_bytes())?;
     Ok(Ending::Given)
 }
 
@@ -172,6 +98,6 @@ fn tell_version(rt: &HostRuntime, words: &[Vec<u8>]) -> Outcome {
     }
     let (number, toolchain) = (version::NUMBER, version::TOOLCHAIN);
     let text = format!(in rt.alloc(); "crpd {number}\nproved with {toolchain}\n")?;
-    files::print(rt, text.as_str().as_bytes())?;
+    console::print(rt, text.as_str().as_bytes())?;
     Ok(Ending::Given)
 }

@@ -1,13 +1,14 @@
 // A partner's list of claimed responses, and what is found of it.
-use crate::answers::refused_stop;
+use crate::answers::method;
 use asked::arguments::{Arguments, Opt};
 use asked::ending::{Outcome, Stop};
 use claims::list;
-use files::{Input, is_written, print};
+use command_line::refused_stop;
+use console::{Input, is_written, print};
 use std::alloc::Global;
 use table::Table;
 use table::accepted::Accepted;
-use table::refusals::{Reason, Refusal};
+use texts::refusals::{Reason, Refusal};
 use worded::claimed;
 
 // Why nothing is told of a list: the table is refused, or the list itself.
@@ -24,13 +25,13 @@ fn list_stop(alloc: Global, input: &Input, list: &Input, table: &Table, refusal:
 
 pub fn check(rt: &HostRuntime, arguments: &Arguments) -> Outcome {
     let alloc = rt.alloc();
-    let method = arguments.method(0)?;
+    let method = method(rt.alloc(), arguments, 0)?;
     let (list, file) = (arguments.operand(1), arguments.operand(2));
-    if files::named(list).is_none() && files::named(file).is_none() {
+    if console::named(list).is_none() && console::named(file).is_none() {
         return Err(Stop::wrong(alloc, "LIST and FILE are both standard input"));
     }
-    let list = files::read(rt, list)?;
-    let input = files::read(rt, file)?;
+    let list = console::read(rt, list)?;
+    let input = console::read(rt, file)?;
     let (text, listed) = (input.text.as_slice(), list.text.as_slice());
     let mut table = Table::empty();
     let accepted = match Accepted::read(text, &mut table) {

@@ -3,14 +3,14 @@ use crate::answers::all_pass;
 use asked::arguments::Arguments;
 use asked::ending::{Ending, Outcome, Stop};
 use builds::Part;
+use console::tell;
 use files::disk::{Disk, Found};
 use files::progress::{self, Progress};
-use files::{Parts, deliver, tell};
+use files::{Parts, deliver};
 use lists::Fate;
-use refused::wording;
 use std::alloc::{AllocError, Global};
 use std::fmt::Write as _;
-use table::text::{Fields, Lines};
+use texts::lines::{Fields, Lines};
 
 // The part that is asked for.
 #[derive(Clone, Copy)]
@@ -169,7 +169,7 @@ pub fn lists(rt: &HostRuntime, arguments: &Arguments) -> Outcome {
 }
 
 // How the builds of a list ended, the worst of them. What is no list is refused.
-fn ending_of_list(alloc: Global, list: &files::Input) -> Result<Ending, Stop> {
+fn ending_of_list(alloc: Global, list: &console::Input) -> Result<Ending, Stop> {
     let mut worst = Ending::Given;
     for (line, number) in Lines::of(list.text.as_slice()).zip(1u64..) {
         match ending_of_line(line) {

@@ -1,10 +1,12 @@
 // A replay tick by tick: when a first job ends, and the ticks until then as a picture.
-use crate::answers::{ask, position, refused_stop, spare_input};
+use crate::answers::{ask, position, spare_input};
 use answered::Question;
 use asked::arguments::{Arguments, Opt};
 use asked::ending::{Ending, Outcome, Stop};
 use cache::units::Ticks;
-use files::{Input, deliver};
+use command_line::refused_stop;
+use console::Input;
+use files::deliver;
 use replay::ticks::LONGEST_PAGE;
 use std::alloc::Global;
 use table::Table;
@@ -18,7 +20,7 @@ pub fn replay(rt: &HostRuntime, arguments: &Arguments) -> Outcome {
     } else {
         None
     };
-    let input = files::read(rt, file)?;
+    let input = console::read(rt, file)?;
     if let Some(out) = out {
         spare_input(rt, &input, file, out)?;
     }

@@ -20,7 +20,7 @@ use std::alloc::{AllocError, Global};
 use std::fmt::Write;
 use table::Table;
 use table::accepted::Accepted;
-use table::refusals::Refusal;
+use texts::refusals::Refusal;
 
 // With what the library was proved, as the command tells it: its number, and the toolchain.
 #[derive(Clone, Copy)]

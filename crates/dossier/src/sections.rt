@@ -8,7 +8,6 @@ use analysis::Method;
 use analysis::rows::Row;
 use bars::Undrawn;
 use cache::useful::Form;
-use refused::wording;
 use search::demand::Response;
 use sentences::sums::Sum;
 use std::alloc::{AllocError, Global};
@@ -16,7 +15,7 @@ use std::fmt::Write;
 use table::Table;
 use table::accepted::{Accepted, Pending};
 use table::tasks::Task;
-use table::text::Lines;
+use texts::lines::Lines;
 
 // What the page is of.
 #[derive(Clone, Copy)]

@@ -5,7 +5,6 @@ use crate::figures::{Digits, decimal};
 use crate::task_sets::CONFIGURATION;
 use crate::{PAPER_BREAKDOWN, Results, utilisation};
 use drawn::svg::{Picture, Place, Tenths};
-use refused::wording;
 use std::alloc::{AllocError, Global};
 use std::fmt::Write;
 use std::num::{nearest_i64_to_f64, saturating_f64_to_i64};

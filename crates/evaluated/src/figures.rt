@@ -2,7 +2,6 @@
 
 use crate::task_sets::CONFIGURATION;
 use crate::{PAPER_BREAKDOWN, Results, Scores, utilisation};
-use refused::wording;
 use std::alloc::{AllocError, Global};
 use std::fmt::Write;
 

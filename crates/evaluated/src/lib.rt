@@ -22,7 +22,7 @@ use std::alloc::{AllocError, Global};
 use std::num::nearest_u64_to_f64;
 use table::Table;
 use table::accepted::Accepted;
-use table::refusals::Refusal;
+use texts::refusals::Refusal;
 
 // A number for each method.
 pub type Scores = [f64; methods::COUNT];

@@ -10,13 +10,13 @@ use Rattle.cache.specs.UsefulField.{read_useful, within_ways}
 use Rattle.cache.specs.Words.{number_of, members, words_of}
 use Rattle.search.specs.declared.demand.Response.{Response}
 use Rattle.search.specs.declared.demand.Response.TheVariants.{Within}
-use Rattle.table.specs.declared.refusals.Refusal.{Refusal}
+use Rattle.texts.specs.declared.refusals.Refusal.{Refusal}
 use Rattle.search.specs.Demand.{demand_of}
 use Rattle.search.specs.Least.{first_of, least_of}
 use Rattle.search.specs.Positions.{run, fold_by}
-use Rattle.table.specs.Cut.{up_to, lines}
-use Rattle.table.specs.Fields.{read_digits, read_number, has_shape, is_name}
-use Rattle.table.specs.Rows.{unless_fault}
+use Rattle.texts.specs.Cut.{up_to, lines}
+use Rattle.texts.specs.Fields.{read_digits, read_number, has_shape, is_name}
+use Rattle.texts.specs.Rows.{unless_fault}
 use Rattle.table.specs.HeadLine.{is_head, read_form, head_in_range}
 use Rattle.table.specs.TaskLine.{times_in_range, times_in_order, task_said, task_rows}
 use Rattle.table.specs.AccessLine.{access_said, access_rows}

@@ -2,14 +2,14 @@
 use Rattle.std.proofs.Common.{ℕ, ◌<◌, arith, ◌≡◌, refl, sym, ◌∙◌, Bool, true, false, cond, ltb, leb, leb-false, List, Result, Ok, Err}
 use Rattle.search.specs.declared.demand.Response.{Response}
 use Rattle.search.specs.declared.demand.Response.TheVariants.{Within}
-use Rattle.table.specs.declared.refusals.Reason.TheVariants as reason
-use Rattle.table.specs.declared.refusals.Refusal.{Refusal}
-use Rattle.table.specs.Numbers.{untold}
+use Rattle.texts.specs.declared.refusals.Reason.TheVariants as reason
+use Rattle.texts.specs.declared.refusals.Refusal.{Refusal}
+use Rattle.texts.specs.Numbers.{untold}
 use Rattle.table.specs.declared.Table.{Table}
 use Rattle.table.specs.Reading.{then_read}
 use Rattle.table.proofs.AcceptedLaws.{accepted-table}
-use Rattle.analysis.specs.Analysis.{response_of}
-use Rattle.crpd.specs.Operations.{numbered, answer_to}
+use Rattle.analysis.specs.Analysis.{response_of, numbered}
+use Rattle.crpd.specs.Operations.{answer_to}
 use Rattle.crpd.specs.Meanings.{ReadsAs}
 use Rattle.every_run.specs.Texts.{BoundsEveryRun}
 use Rattle.every_run.proofs.TableBounds.{bounded}

@@ -5,7 +5,7 @@ use Rattle.cache.specs.declared.useful.Form.TheVariants.{Hex}
 use Rattle.cache.specs.Levels.{marked}
 use Rattle.search.specs.declared.demand.Response.{Response}
 use Rattle.search.specs.declared.demand.Response.TheVariants.{Within}
-use Rattle.table.specs.declared.refusals.Refusal.{Refusal}
+use Rattle.texts.specs.declared.refusals.Refusal.{Refusal}
 use Rattle.table.specs.declared.tasks.Task.{Task}
 use Rattle.table.specs.Tasks.{pack_name}
 use Rattle.table.specs.declared.Table.{Table}

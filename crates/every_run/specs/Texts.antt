@@ -3,9 +3,9 @@ use Rattle.std.specs.Prelude.{ℕ, ◌≡◌, List, Result, Ok}
 use Rattle.cache.specs.declared.units.Ticks.{Ticks}
 use Rattle.search.specs.declared.demand.Response.{Response}
 use Rattle.search.specs.declared.demand.Response.TheVariants.{Within}
-use Rattle.table.specs.declared.refusals.Refusal.{Refusal}
+use Rattle.texts.specs.declared.refusals.Refusal.{Refusal}
 use Rattle.table.specs.declared.Table.{Table}
-use Rattle.crpd.specs.Operations.{numbered}
+use Rattle.analysis.specs.Analysis.{numbered}
 use Rattle.crpd.specs.Meanings.{ReadsAs}
 use Rattle.every_run.specs.Bounds.{BoundsRuns}
 

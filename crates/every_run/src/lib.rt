@@ -7,7 +7,7 @@ ghost use Rattle.crpd.specs.Operations.{answer_to};
 ghost use Rattle.every_run.specs.Texts.{BoundsEveryRun};
 
 use search::demand::Response;
-use table::refusals::Refusal;
+use texts::refusals::Refusal;
 
 // The answer for the task at a position under a method, and what it means: every job of the task, in every run of the text's table, is complete so many ticks
 // after its release, and so by its deadline.

@@ -5,8 +5,8 @@ use crate::Parts;
 use crate::progress::Progress;
 use asked::ending::Stop;
 use builds::{Build, Folder, Unread, Unwritten};
+use console::path_of;
 use lists::Fate;
-use refused::wording;
 use std::alloc::{AllocError, Global};
 use std::fmt::Write as _;
 use std::fs;
@@ -241,7 +241,7 @@ impl<'a> Disk<'a> {
 }
 
 fn text_of(rt: &HostRuntime, path: &[u8], buf: &mut [u8]) -> io::Result<usize> {
-    let path = crate::path_of(path)?;
+    let path = path_of(path)?;
     // what is no plain file is not waited for: nobody might ever write into a pipe
     if !fs::metadata(rt, path)?.is_file() {
         return Err(io::Error::other("it is no plain file"));
@@ -258,7 +258,7 @@ fn beside(alloc: Global, table: &[u8], end: &[u8]) -> Result<Vec<u8>, AllocError
 }
 
 fn put_file(rt: &HostRuntime, parts: &mut Parts, path: &[u8], bytes: &[u8]) -> io::Result<()> {
-    parts.replace(rt, crate::path_of(path)?, bytes)
+    parts.replace(rt, path_of(path)?, bytes)
 }
 
 impl<'a> Folder for Disk<'a> {

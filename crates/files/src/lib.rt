@@ -1,4 +1,4 @@
-// Where a table's text comes from, and where results go: standard input and output, or a file that is written aside and then renamed.
+// Where results go: standard output, or a file that is written aside and then renamed; whole files that are read, and builds below a folder.
 #![tactic(auto)]
 
 // Builds below a folder of the file system.
@@ -8,30 +8,12 @@ pub mod progress;
 
 use asked::arguments::{Arguments, Opt};
 use asked::ending::Stop;
-use refused::wording;
+use console::{Input, named, path_of, print};
 use std::alloc::{AllocError, Global};
 use std::fmt::Write as _;
 use std::fs::{self, Metadata, OpenOptions, Permissions};
 use std::io::{self, ErrorKind, Read, Write};
 use std::os::unix::fs::MetadataExt;
-
-// A text, and the name under which people are told of it.
-#[derive(Drop)]
-pub struct Input {
-    pub name: String,
-    pub text: Vec<u8>,
-}
-
-// The path that bytes name. A path is UTF-8 text here.
-pub fn path_of(name: &[u8]) -> io::Result<&str> {
-    match std::str::from_utf8(name) {
-        Ok(path) => Ok(path),
-        Err(_) => Err(io::Error::new(
-            ErrorKind::InvalidFilename,
-            "its name is no UTF-8, and only such names can be opened",
-        )),
-    }
-}
 
 // The path of a folder that is named.
 pub fn path_of_folder(alloc: Global, name: &[u8]) -> Result<String, Stop> {
@@ -44,14 +26,6 @@ pub fn path_of_folder(alloc: Global, name: &[u8]) -> Result<String, Stop> {
     }
 }
 
-// The file that is named; none where it is standard input.
-pub fn named(file: Option<&[u8]>) -> Option<&[u8]> {
-    match file {
-        Some(name) if name != b"-".as_slice() => Some(name),
-        _ => None,
-    }
-}
-
 // Whether a folder has this name.
 pub fn is_folder(rt: &HostRuntime, name: &[u8]) -> bool {
     match (named(Some(name)), path_of(name)) {
@@ -60,26 +34,6 @@ pub fn is_folder(rt: &HostRuntime, name: &[u8]) -> bool {
             Err(_) => false,
         },
         _ => false,
-    }
-}
-
-fn of_file(rt: &HostRuntime, name: &[u8]) -> io::Result<Vec<u8>> {
-    answered::read_text(rt.alloc(), &mut fs::open(rt, path_of(name)?)?)
-}
-
-// The text of a file; that of standard input where none is named, or `-`.
-pub fn read(rt: &HostRuntime, file: Option<&[u8]>) -> Result<Input, Stop> {
-    let alloc = rt.alloc();
-    let (name, text) = match named(file) {
-        Some(path) => (wording::word(alloc, path)?, of_file(rt, path)),
-        None => (
-            String::from_str(alloc, "standard input")?,
-            answered::read_text(alloc, &mut rt.stdin()),
-        ),
-    };
-    match text {
-        Ok(text) => Ok(Input { name, text }),
-        Err(error) => Err(Stop::failed(alloc, name.as_str(), "read", error)),
     }
 }
 
@@ -161,26 +115,6 @@ pub fn output<'a>(rt: &HostRuntime, arguments: &'a Arguments) -> Result<&'a [u8]
         }
     }
     Ok(name)
-}
-
-// Whether standard output got all. That nobody reads it any more is no failure.
-pub fn is_written(alloc: Global, written: io::Result<()>) -> Result<(), Stop> {
-    match written {
-        Ok(()) => Ok(()),
-        Err(error) if error.kind() == ErrorKind::BrokenPipe => Ok(()),
-        Err(error) => Err(Stop::failed(alloc, "standard output", "written", error)),
-    }
-}
-
-// Writes to standard output.
-pub fn print(rt: &HostRuntime, text: &[u8]) -> Result<(), Stop> {
-    let alloc = rt.alloc();
-    is_written(alloc, terminal::print(alloc, text, &mut rt.stdout()))
-}
-
-// Says something on standard error. That nobody can be told is no reason to stop.
-pub fn tell(rt: &HostRuntime, message: &str) {
-    let _ = terminal::tell(rt.alloc(), message.as_bytes(), &mut rt.stderr());
 }
 
 fn is_same(one: &Metadata, other: &Metadata) -> bool {

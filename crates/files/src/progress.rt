@@ -1,7 +1,6 @@
 // How far the work is, on standard error: a bar on a terminal, a line now and then elsewhere.
 use asked::arguments::{Arguments, Opt};
 use asked::ending::Stop;
-use refused::wording;
 use std::alloc::AllocError;
 use std::fmt::Write as _;
 use std::io::{IsTerminal, Write};
@@ -34,7 +33,7 @@ impl Progress {
             done: 0,
             began: now,
             last: now,
-            lively: is_lively(rt, rt.stderr().is_terminal()),
+            lively: console::is_lively(rt, rt.stderr().is_terminal()),
             stands: false,
         }
     }
@@ -121,15 +120,6 @@ fn since(rt: &HostRuntime, when: Instant) -> u64 {
     }
 }
 
-// Whether a terminal is more than paper: it can be written over, and has colours.
-pub fn is_lively(rt: &HostRuntime, is_terminal: bool) -> bool {
-    is_terminal
-        && match std::env::var(rt, "TERM") {
-            Ok(kind) => kind.as_str() != "dumb",
-            Err(_) => true,
-        }
-}
-
 const JOBS_MOST: u64 = 1000;
 
 // Takes the option --jobs, of which there are none any more, and tells what took its place.
@@ -137,7 +127,7 @@ pub fn take_jobs(rt: &HostRuntime, arguments: &Arguments, instead: &str) -> Resu
     arguments.number(Opt::Jobs, 1, JOBS_MOST, 1)?;
     if arguments.has(Opt::Jobs) {
         let message = format!(in rt.alloc(); "--jobs does nothing: {instead}")?;
-        crate::tell(rt, message.as_str());
+        console::tell(rt, message.as_str());
     }
     Ok(())
 }

@@ -9,7 +9,8 @@ use Rattle.search.specs.declared.demand.Response.TheVariants.{Within, Unschedula
 use Rattle.search.proofs.PositionLaws.{fold-none, fold_next}
 use Rattle.table.specs.declared.Table.{Table}
 use Rattle.table_text.specs.Readable.{Readable}
-use Rattle.analysis.specs.Verdict.{has_response, verdict}
+use Rattle.analysis.specs.Verdict.{verdict}
+use Rattle.search.specs.Least.{has_response}
 use Rattle.analysis.specs.declared.Method.{Method}
 use Rattle.analysis.specs.Analysis.{response_of}
 use Rattle.growth.specs.Scaling.{scaled_by}

@@ -4,8 +4,8 @@ use Rattle.std.proofs.Math.ListN.{length-map}
 use Rattle.std.proofs.lemmas.List.{map-append}
 use Rattle.std.proofs.lemmas.List.Elements.{All-append, All-replicate}
 use Rattle.std.specs.List.{All}
-use Rattle.table.specs.Cut.{fields, lines}
-use Rattle.table.specs.Fields.{read_digits}
+use Rattle.texts.specs.Cut.{fields, lines}
+use Rattle.texts.specs.Fields.{read_digits}
 use Rattle.table.specs.declared.tasks.name.Name.{Name}
 use Rattle.cache.specs.declared.useful.Form.{Form}
 use Rattle.table.specs.declared.tasks.Task.{Task}

@@ -10,14 +10,13 @@ ghost use Rattle.std.specs.Prelude.{◌≡◌, min, max, ◌≤◌, ◌<◌, len
 ghost use Rattle.search.specs.Positions.{front};
 ghost use Rattle.search.specs.Demand.{term_of, demand_of};
 ghost use Rattle.search.specs.Terms.{term_in, NoOverflow};
-ghost use Rattle.search.specs.Least.{least_of};
+ghost use Rattle.search.specs.Least.{least_of, has_response};
 ghost use Rattle.search.specs.Counts.{Started};
 ghost use Rattle.table_text.specs.Readable.{Readable};
 ghost use Rattle.analysis.specs.Costs.{term_with};
 ghost use Rattle.analysis.specs.Row.{ReadyToJoin};
 ghost use Rattle.analysis.specs.BlockedRow.{ChargedUnder, FewReloads, term_by};
 ghost use Rattle.analysis.specs.Analysis.{counted_response, response_of, MayBlock};
-ghost use Rattle.analysis.specs.Verdict.{has_response};
 ghost use Rattle.growth.specs.Scaling.{FitsBy, scaled_by};
 ghost use Rattle.growth.specs.Growth.{growth_of, Bounds};
 ghost use Rattle.growth.specs.Boundary.{IsGrowth};

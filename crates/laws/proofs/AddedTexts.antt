@@ -8,10 +8,10 @@ use Rattle.std.proofs.lemmas.Slice.Eq.{bytes_eq-Decides}
 use Rattle.std.proofs.lemmas.List.{map-append, get_or_append_left, get_or_at}
 use Rattle.std.proofs.lemmas.List.Edits.{length-insert, get_or-insert_at, insert-append_left}
 use Rattle.std.proofs.lemmas.List.Sums.{passes_at_first}
-use Rattle.table.specs.Cut.{field, lines}
-use Rattle.table.specs.declared.refusals.Refusal.{Refusal}
-use Rattle.table.specs.Rows.{unless_fault}
-use Rattle.table.proofs.RowLaws.{fine-row}
+use Rattle.texts.specs.Cut.{field, lines}
+use Rattle.texts.specs.declared.refusals.Refusal.{Refusal}
+use Rattle.texts.specs.Rows.{unless_fault}
+use Rattle.texts.proofs.RowLaws.{fine-row}
 use Rattle.table.specs.declared.tasks.name.Name.{Name}
 use Rattle.table.specs.declared.tasks.Task.{Task}
 use Rattle.table.specs.declared.tasks.head.Head.{Head}

@@ -1,9 +1,9 @@
 -- Any worker. What a public operation promises is an equation with a definition of the text, the numbers and, for 14, the buffer's length. So two calls that
 -- agree on these agree on the answer and on every byte that is written, whoever makes them, in whatever order, and whatever their buffers held.
 use Rattle.std.proofs.Common.{◌≡◌, ℕ, ◌≤◌, Bool, true, false, cond, List, [], length, arith, refl, sym, ap, ◌∙◌, inl, inr, Result, Ok, Err, leb, le-leb}
-use Rattle.table.specs.declared.refusals.Reason.TheVariants.{ShortBuffer}
-use Rattle.table.specs.declared.refusals.Refusal.{Refusal}
-use Rattle.table.specs.Numbers.{untold}
+use Rattle.texts.specs.declared.refusals.Reason.TheVariants.{ShortBuffer}
+use Rattle.texts.specs.declared.refusals.Refusal.{Refusal}
+use Rattle.texts.specs.Numbers.{untold}
 use Rattle.writing.specs.Delivery.{written_of, buffer_of, PutsText}
 use Rattle.crpd.specs.Operations.{told_of, left_of, WritesText, printed}
 use Rattle.crpd.specs.Codes.{number_code, CodesText}

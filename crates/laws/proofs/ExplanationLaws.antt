@@ -17,7 +17,7 @@ use Rattle.laws.proofs.AddedTables.{added-same}
 use Rattle.laws.proofs.SameExplained.{unowned-needs}
 use Rattle.laws.proofs.TwoTexts.{explanations-same, added-names}
 use Rattle.analysis.specs.Same.{SameNamesDownTo}
-use Rattle.table.specs.declared.refusals.Refusal.{Refusal}
+use Rattle.texts.specs.declared.refusals.Refusal.{Refusal}
 use Rattle.crpd.specs.Operations.{WritesText, explanation_to}
 
 -- ---- of one table

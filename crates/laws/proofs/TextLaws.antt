@@ -4,9 +4,9 @@ use Rattle.std.proofs.lemmas.Bool.{ltb-false}
 use Rattle.std.proofs.Math.Seq.{take_at}
 use Rattle.search.specs.declared.demand.Response.{Response}
 use Rattle.search.specs.declared.demand.Response.TheVariants.{Within}
-use Rattle.table.specs.declared.refusals.Reason.TheVariants as reason
-use Rattle.table.specs.declared.refusals.Refusal.{Refusal}
-use Rattle.table.specs.Numbers.{untold}
+use Rattle.texts.specs.declared.refusals.Reason.TheVariants as reason
+use Rattle.texts.specs.declared.refusals.Refusal.{Refusal}
+use Rattle.texts.specs.Numbers.{untold}
 use Rattle.table.specs.declared.Table.{Table}
 use Rattle.table.specs.Reading.{then_read, read_text}
 use Rattle.table.proofs.ToldNumbers.{text-low}
@@ -15,10 +15,10 @@ use Rattle.table_text.specs.TableText.{table_text}
 use Rattle.table_text.specs.Readable.{Readable}
 use Rattle.table_text.proofs.RoundTrip.{written-then-read}
 use Rattle.analysis.specs.declared.Method.{Method}
-use Rattle.analysis.specs.Analysis.{response_of}
-use Rattle.crpd.specs.Operations.{numbered, position_in, answer_to, WritesText, rewritten, WritesTable}
+use Rattle.analysis.specs.Analysis.{response_of, numbered}
+use Rattle.crpd.specs.Operations.{position_in, answer_to, WritesText, rewritten, WritesTable}
 use Rattle.crpd.proofs.Easier.{easier-answers}
-use Rattle.laws.specs.declared.texts.TwoAnswers.{TwoAnswers}
+use Rattle.laws.specs.declared.any_text.TwoAnswers.{TwoAnswers}
 use Rattle.laws.specs.Texts.{EasierTextRespondsFirst, ComesBack, IsReadAgain}
 use Rattle.laws.proofs.TwoTexts.{no-other, answers-same}
 

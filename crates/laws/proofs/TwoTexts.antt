@@ -5,9 +5,9 @@ use Rattle.std.proofs.lemmas.Bool.{false≢true, lt-leb}
 use Rattle.std.proofs.lemmas.List.{length-take, get_or_past}
 use Rattle.search.specs.declared.demand.Response.{Response}
 use Rattle.search.specs.Least.{NoLater}
-use Rattle.table.specs.declared.refusals.Reason.TheVariants as reason
-use Rattle.table.specs.declared.refusals.Refusal.{Refusal}
-use Rattle.table.specs.Numbers.{untold}
+use Rattle.texts.specs.declared.refusals.Reason.TheVariants as reason
+use Rattle.texts.specs.declared.refusals.Refusal.{Refusal}
+use Rattle.texts.specs.Numbers.{untold}
 use Rattle.table.specs.declared.tasks.Task.{Task}
 use Rattle.table.specs.Tasks.{blank}
 use Rattle.table.specs.declared.Table.{Table}
@@ -23,7 +23,7 @@ use Rattle.report.specs.Explanation.{explanation_of}
 use Rattle.crpd.specs.Operations.{method_named, position_in, answer_to, explanation_to}
 use Rattle.crpd.specs.Meanings.{ReadsAs}
 use Rattle.laws.specs.Added.{place_after, LineAdded, NoSoonerWithMore}
-use Rattle.laws.specs.declared.texts.TwoAnswers.{TwoAnswers}
+use Rattle.laws.specs.declared.any_text.TwoAnswers.{TwoAnswers}
 use Rattle.laws.proofs.AddedTables.{added-no-sooner, added-same, place-below, place-from, place-most, one-more}
 use Rattle.laws.proofs.AddedTexts.{text-added}
 use Rattle.laws.proofs.SameExplained.{explanation-same}

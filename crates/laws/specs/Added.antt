@@ -3,7 +3,7 @@ use Rattle.std.specs.Prelude.{ℕ, suc, ◌+◌, ◌≤◌, ◌<◌, ◌≡◌, 
 use Rattle.std.specs.List.{insert}
 use Rattle.search.specs.declared.demand.Response.{Response}
 use Rattle.search.specs.Least.{NoLater}
-use Rattle.table.specs.Cut.{lines}
+use Rattle.texts.specs.Cut.{lines}
 use Rattle.table.specs.declared.tasks.Task.{Task}
 use Rattle.table.specs.declared.accesses.Access.{Access}
 use Rattle.table.specs.declared.Table.{Table}
@@ -11,7 +11,7 @@ use Rattle.table.specs.Tables.{tasks_of, accesses_of}
 use Rattle.table.specs.Reading.{is_task_line}
 use Rattle.crpd.specs.Operations.{answer_to}
 use Rattle.crpd.specs.Meanings.{ReadsAs}
-use Rattle.laws.specs.declared.texts.TwoAnswers.{TwoAnswers}
+use Rattle.laws.specs.declared.any_text.TwoAnswers.{TwoAnswers}
 
 -- where the task at k stands with another one put in at p: from p on one further down
 abbrev pub place_after : ℕ → ℕ → ℕ

@@ -2,9 +2,9 @@
 use Rattle.std.specs.Prelude.{ℕ, ◌≤◌, ◌≡◌, List, ◌++◌, length, drop, Result, Ok, Err}
 use Rattle.cache.specs.declared.units.Ticks.{Ticks}
 use Rattle.search.specs.declared.demand.Response.TheVariants.{Within}
-use Rattle.table.specs.declared.refusals.Reason.TheVariants.{NoText}
-use Rattle.table.specs.declared.refusals.Refusal.{Refusal}
-use Rattle.table.specs.Numbers.{reason_number, untold}
+use Rattle.texts.specs.declared.refusals.Reason.TheVariants.{NoText}
+use Rattle.texts.specs.declared.refusals.Refusal.{Refusal}
+use Rattle.texts.specs.Numbers.{reason_number, untold}
 use Rattle.table.specs.declared.Table.{Table}
 use Rattle.table.specs.Reading.{read_text}
 use Rattle.analysis.specs.Harder.{Harder}
@@ -12,7 +12,7 @@ use Rattle.analysis.specs.Same.{SameDownTo}
 use Rattle.table_text.specs.Readable.{Readable}
 use Rattle.crpd.specs.Operations.{answer_to}
 use Rattle.crpd.specs.Meanings.{ReadsAs}
-use Rattle.laws.specs.declared.texts.TwoAnswers.{TwoAnswers}
+use Rattle.laws.specs.declared.any_text.TwoAnswers.{TwoAnswers}
 
 -- the two answers; and where both texts are accepted and the second's table is harder, line by line: if the second has a response, the first has one, and it is no
 -- larger; and where their tables are the same as far as i, they are the same

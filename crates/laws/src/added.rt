@@ -3,7 +3,7 @@ ghost use Rattle.std.specs.Prelude.{◌≡◌, ◌<◌, ◌≤◌};
 ghost use Rattle.table.specs.Accepted.{AcceptedTable};
 ghost use Rattle.laws.specs.Added.{place_after, moved_by, TaskPutIn, NoSoonerWithMore};
 
-use crate::texts::TwoAnswers;
+use crate::any_text::TwoAnswers;
 use table::Table;
 use table::accesses::Access;
 use table::tasks::Task;

@@ -4,7 +4,7 @@
 ghost use Rattle.laws.specs.Calls.{AnsweredTwice, ReportedTwice};
 
 use search::demand::Response;
-use table::refusals::Refusal;
+use texts::refusals::Refusal;
 
 // What two calls of `crpd::answer` answered.
 #[derive(Clone, Copy)]

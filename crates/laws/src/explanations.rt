@@ -6,7 +6,7 @@ use analysis::need::Need;
 use analysis::{Method, need};
 use search::demand::Response;
 use table::accepted::{Accepted, Pending};
-use table::refusals::Refusal;
+use texts::refusals::Refusal;
 
 // What a task needs, and its response.
 #[derive(Clone, Copy)]

@@ -6,6 +6,8 @@
 pub mod added;
 // Any order of the tasks gives the same response.
 pub mod any_order;
+// The same of any text, where nothing is asked of the caller.
+pub mod any_text;
 // Any worker gets the same answer.
 pub mod any_worker;
 // What is found of claimed responses, beside our own.
@@ -16,4 +18,3 @@ pub mod explanations;
 pub mod figures;
 pub mod orders;
 pub mod solutions;
-pub mod texts;

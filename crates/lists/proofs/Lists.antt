@@ -3,7 +3,7 @@ use Rattle.std.proofs.Common.{◌≡◌, ℕ, ◌+◌, ◌≤◌, Bool, true, fa
 use Rattle.std.proofs.lemmas.List.Concat.{flat_map-append}
 use Rattle.std.proofs.lemmas.List.Sorted.{sum_by-IsPermutation}
 use Rattle.std.proofs.lemmas.List.Sums.{sum_by-cons}
-use Rattle.table.specs.Cut.{lead, lines}
+use Rattle.texts.specs.Cut.{lead, lines}
 use Rattle.lists.specs.Together.{lent_of, texts_of, lines_in, compare_lines, in_place, ascending, text_of_lines, together}
 use Rattle.lists.proofs.Orders.{times, times-append, times-ascending, sorted-by, ascending-same}
 

@@ -5,7 +5,7 @@ use denote.Ref.{Bor}
 use Rattle.std.specs.declared.cmp.Ordering.{Ordering}
 use Rattle.std.specs.Ordering.{is_lt, nat_cmp}
 use Rattle.std.specs.Cmp.Lexicographic.{slice_cmp}
-use Rattle.table.specs.Cut.{lines}
+use Rattle.texts.specs.Cut.{lines}
 
 -- the texts in vectors
 abbrev pub texts_of : List (Vec ℕ Global) → List (List ℕ)

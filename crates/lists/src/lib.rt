@@ -3,13 +3,13 @@
 
 ghost use Rattle.std.specs.Prelude.{◌≡◌, ℕ, ◌+◌, ◌≤◌, List, [], ◌∷◌, ◌++◌, length, map, flat_map, IsPermutation, IfOk, OnOk};
 ghost use Rattle.writing.specs.declared.writer.TheConstants.{ROOM};
-ghost use Rattle.table.specs.Cut.{lines};
+ghost use Rattle.texts.specs.Cut.{lines};
 ghost use Rattle.lists.specs.Lists.{fate_text, list_line};
 ghost use Rattle.lists.specs.Together.{lent_of, texts_of, together};
 
 use std::alloc::{AllocError, Global};
-use table::refusals::Refusal;
-use table::text::Lines;
+use texts::lines::Lines;
+use texts::refusals::Refusal;
 use writing::delivery;
 use writing::writer::Draft;
 

@@ -3,15 +3,14 @@
 
 use crate::excerpt::Part;
 use crate::forms::{self, Field, Kind, LineKind};
-use crate::wording;
 use cache::units::Ticks;
 use replay::LONGEST_REPLAY;
 use std::alloc::{AllocError, Global};
 use std::fmt::Write;
 use table::Table;
-use table::fields::{is_within, read_number};
-use table::refusals::{Reason, Refusal};
-use table::text::{Fields, Lines};
+use texts::fields::{is_within, read_number};
+use texts::lines::{Fields, Lines};
+use texts::refusals::{Reason, Refusal};
 
 // What is wrong, and where in the line.
 #[derive(Drop)]

@@ -10,13 +10,11 @@ mod finding;
 mod forms;
 // What is wrong in a partner's list.
 mod listed;
-// Words and numbers as people see them.
-pub mod wording;
 
 use crate::finding::Finding;
 use std::alloc::{AllocError, Global};
 use table::Table;
-use table::refusals::{Reason, Refusal};
+use texts::refusals::{Reason, Refusal};
 
 // All that standard error is told of a text's refusal; `name` is that of the text.
 pub fn told(

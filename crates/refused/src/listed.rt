@@ -2,11 +2,10 @@
 
 use crate::excerpt::Part;
 use crate::finding::{Found, from_field, nth_line, place_of, told_at, told_nowhere};
-use crate::wording;
 use std::alloc::Global;
 use std::fmt::Write;
 use table::Table;
-use table::refusals::{Reason, Refusal};
+use texts::refusals::{Reason, Refusal};
 
 // Places of a line of a list.
 const NAME: usize = 1;

@@ -4,9 +4,9 @@
 use Rattle.std.specs.Prelude.{ℕ, zero, suc, ◌%◌, ◌≤◌, ◌<◌, ◌≡◌, Bool, true, false, List, [], ◌∷◌, ◌++◌, length, replicate, sum, position, Option, Some, None, Result, Ok, Err, if◌then◌else◌, nat_lt, ◌==◌, slice_index_or}
 use Rattle.cache.specs.declared.units.Ticks.{Ticks}
 use Rattle.table.specs.declared.tasks.Task.{Task}
-use Rattle.table.specs.declared.refusals.Reason.TheVariants.{LongDeadline}
-use Rattle.table.specs.declared.refusals.Refusal.{Refusal}
-use Rattle.table.specs.Numbers.{untold}
+use Rattle.texts.specs.declared.refusals.Reason.TheVariants.{LongDeadline}
+use Rattle.texts.specs.declared.refusals.Refusal.{Refusal}
+use Rattle.texts.specs.Numbers.{untold}
 use Rattle.table.specs.declared.Table.{Table}
 use Rattle.table.specs.Tables.{tasks_of, at}
 use Rattle.replay.specs.declared.TheConstants.{LONGEST_REPLAY}

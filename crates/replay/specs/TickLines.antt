@@ -1,7 +1,7 @@
 -- The ticks of a replay as lines: which task runs in each.
 use Rattle.std.specs.Prelude.{ℕ, zero, suc, ◌-◌, ◌≤◌, min, List, [], ◌∷◌, ◌++◌, length, Option, Some, None, Result, codes}
 use Rattle.table.specs.Tasks.{name_text}
-use Rattle.table.specs.declared.refusals.Refusal.{Refusal}
+use Rattle.texts.specs.declared.refusals.Refusal.{Refusal}
 use Rattle.table.specs.declared.Table.{Table}
 use Rattle.table.specs.Tables.{tasks_of, at}
 use Rattle.writing.specs.Text.{spelled, line_of}

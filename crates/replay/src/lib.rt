@@ -13,8 +13,8 @@ ghost use Rattle.replay.specs.Tally.{Runnable, with_due, add_due, is_busy, give,
 use cache::units::Ticks;
 use table::Table;
 use table::accepted::Pending;
-use table::refusals::{Reason, Refusal};
 use table::tasks::Task;
+use texts::refusals::{Reason, Refusal};
 
 // No replay is longer, in ticks.
 pub const LONGEST_REPLAY: u64 = 100000;

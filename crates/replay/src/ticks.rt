@@ -8,7 +8,7 @@ ghost use Rattle.replay.specs.TickLines.{tick_line, DeliversPage};
 use crate::{LONGEST_REPLAY, Work, tick};
 use table::Table;
 use table::accepted::Accepted;
-use table::refusals::Refusal;
+use texts::refusals::Refusal;
 use writing::delivery::deliver;
 use writing::writer::Draft;
 

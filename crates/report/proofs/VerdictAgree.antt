@@ -7,7 +7,8 @@ use Rattle.search.specs.declared.demand.Response.{Response}
 use Rattle.search.specs.Positions.{fold_by}
 use Rattle.search.proofs.PositionLaws.{fold_same}
 use Rattle.writing.specs.Text.{line_of, yes_no}
-use Rattle.analysis.specs.Verdict.{has_response, verdict}
+use Rattle.analysis.specs.Verdict.{verdict}
+use Rattle.search.specs.Least.{has_response}
 use Rattle.report.specs.Verdicts.{every_verdict, verdicts_in, verdict_line}
 use Rattle.report.specs.VerdictRows.{blank_row, answer_under, answers_in}
 use Rattle.report.proofs.Lists.{methods-are, methods-same}

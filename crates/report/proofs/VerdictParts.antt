@@ -6,7 +6,8 @@ use Rattle.std.proofs.Math.Seq.{take_all}
 use Rattle.analysis.specs.declared.rows.Row.{Row}
 use Rattle.search.specs.Positions.{run, fold_by}
 use Rattle.search.proofs.PositionLaws.{fold_next}
-use Rattle.analysis.specs.Verdict.{has_response, verdict}
+use Rattle.analysis.specs.Verdict.{verdict}
+use Rattle.search.specs.Least.{has_response}
 use Rattle.report.specs.VerdictRows.{blank_row, answer_under, answers_in}
 
 module _ (rows : List Row) (m : ℕ) where

@@ -18,7 +18,7 @@ use Rattle.analysis.specs.declared.Method.{Method}
 use Rattle.analysis.specs.Analysis.{MayBlock, response_of}
 use Rattle.analysis.specs.Needs.{need_of}
 use Rattle.analysis.specs.declared.need.Need.{Need}
-use Rattle.table.specs.declared.refusals.Refusal.{Refusal}
+use Rattle.texts.specs.declared.refusals.Refusal.{Refusal}
 use Rattle.writing.specs.Delivery.{DeliversText}
 use Rattle.report.specs.Explanation.{activations_in, explanation_of}
 use Rattle.report.specs.declared.explanation.TheConstants.{LONGEST_EXPLANATION}

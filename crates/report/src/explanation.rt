@@ -7,7 +7,7 @@ ghost use Rattle.report.specs.Explained.{DeliversExplanation, AddsUp};
 use analysis::{Method, need};
 use lines::{write_need_line, write_reasons};
 use table::accepted::Pending;
-use table::refusals::Refusal;
+use texts::refusals::Refusal;
 use writing::delivery::deliver;
 use writing::writer::Draft;
 

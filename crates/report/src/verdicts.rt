@@ -3,7 +3,8 @@
 ghost use Rattle.std.specs.Prelude.{◌≡◌, ◌+◌, ◌≤◌, ◌<◌, ◌++◌, length};
 ghost use Rattle.std.specs.List.{list_all};
 ghost use Rattle.writing.specs.declared.writer.TheConstants.{ROOM};
-ghost use Rattle.analysis.specs.Verdict.{has_response, verdict};
+ghost use Rattle.analysis.specs.Verdict.{verdict};
+ghost use Rattle.search.specs.Least.{has_response};
 ghost use Rattle.report.specs.Verdicts.{every_verdict, verdicts_in, verdict_line};
 ghost use Rattle.report.specs.VerdictRows.{answer_under, answers_in};
 

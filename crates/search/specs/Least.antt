@@ -1,6 +1,6 @@
 -- The smallest whole number that equals its demand, for any demand f : ℕ → ℕ. It is said twice: as a function, which computes and which
 -- the contracts cite, and as a relation, which says what the answer means. proofs/LeastLaws.antt has that the two are one.
-use Rattle.std.specs.Prelude.{ℕ, zero, suc, min, max, ◌≤◌, ◌<◌, ◌≡◌, true, false, length, List, slice_index_or, ◌==◌, fold}
+use Rattle.std.specs.Prelude.{ℕ, zero, suc, min, max, ◌≤◌, ◌<◌, ◌≡◌, Bool, true, false, length, List, slice_index_or, ◌==◌, fold}
 use Rattle.search.specs.declared.demand.Response.{Response}
 use Rattle.search.specs.declared.demand.Response.TheVariants.{Within, Unschedulable}
 
@@ -8,6 +8,11 @@ use Rattle.search.specs.declared.demand.Response.TheVariants.{Within, Unschedula
 unfoldable pub first_of : (ℕ → ℕ) → ℕ → ℕ → Response
 first_of f s zero = Unschedulable
 first_of f s (suc k) = elim (s == f s) [ true ↦ Within (record { 0 = s }) | false ↦ first_of f (suc s) k ]
+
+-- whether an answer is a response
+abbrev pub has_response : Response → Bool
+has_response (Within t) = true
+has_response Unschedulable = false
 
 -- the smallest number up to the limit that equals its demand
 unfoldable pub least_of : (ℕ → ℕ) → ℕ → Response

@@ -3,4 +3,4 @@ pub mod Above
 pub mod NeedParts
 pub mod Grounds
 pub mod Texts
-pub mod PlainWords
+pub mod PrintableWords

@@ -8,7 +8,7 @@ use Rattle.search.specs.Positions.{hp}
 use Rattle.search.specs.Terms.{InRange}
 use Rattle.table.specs.declared.Table.{Table}
 use Rattle.table.specs.Tables.{at}
-use Rattle.table.specs.declared.refusals.Refusal.{Refusal}
+use Rattle.texts.specs.declared.refusals.Refusal.{Refusal}
 use Rattle.table.specs.Reading.{read_text, ◌>>=◌}
 use Rattle.analysis.specs.declared.costs.Charge.{Charge}
 use Rattle.analysis.specs.Costs.{reloads_in, charge_under, term_with}
@@ -20,7 +20,10 @@ use Rattle.analysis.specs.Needs.{need_of}
 use Rattle.writing.specs.Text.{spelled}
 use Rattle.report.specs.Explanation.{activations_in, name_at}
 use Rattle.report.specs.Explained.{adds_at, IsBlocker, VictimBelow}
-use Rattle.crpd.specs.Operations.{method_named, position_in}
+use Rattle.crpd.specs.Operations.{method_named, position_in, answer_to}
+use Rattle.endings.specs.declared.Ending.{Ending}
+use Rattle.endings.specs.Endings.{ending_of}
+use Rattle.search.specs.Least.{has_response}
 use Rattle.sentences.specs.declared.sums.Sum.{Sum}
 use Rattle.sentences.specs.Sentences.{sentences_of}
 use Rattle.sentences.specs.Sums.{Told, told_parts, sum_text}
@@ -90,6 +93,12 @@ words_to text m p = do
   method ← method_named m
   table ← read_text text
   words_in table method p
+
+-- how it ends: by whether there is a response
+abbrev pub ending_explained : List ℕ → ℕ → ℕ → Result Ending Refusal
+ending_explained text m p = do
+  response ← answer_to text m p
+  Ok (ending_of (has_response response))
 
 -- ---- what the parts are handed
 

@@ -12,14 +12,11 @@ mod told;
 
 ghost use Rattle.std.specs.Prelude.{◌≡◌, ◌≤◌, IfOk, IfSome, Ok};
 ghost use Rattle.std.specs.List.{AllPass};
-ghost use Rattle.table.specs.Reading.{then_read};
-ghost use Rattle.analysis.specs.Verdict.{has_response};
 ghost use Rattle.analysis.specs.BlockedRow.{ChargedUnder};
-ghost use Rattle.endings.specs.Endings.{ending_of};
-ghost use Rattle.answered.specs.declared.Question.TheVariants.{Explain};
-ghost use Rattle.answered.specs.Answered.{is_plain_byte, unless_refused, ending_for, WritesAnswer};
+ghost use Rattle.writing.specs.Printable.{is_printable_byte};
+ghost use Rattle.endings.specs.Answered.{unless_refused, WritesAnswer};
 ghost use Rattle.sentences.specs.Sentences.{sentences_of};
-ghost use Rattle.sentences.specs.Explained.{ShowsSum, AddsUpTo, explanation_words, words_in, words_to};
+ghost use Rattle.sentences.specs.Explained.{ShowsSum, AddsUpTo, explanation_words, words_in, words_to, ending_explained};
 
 use crate::parts::sum_of;
 use crate::phrases::add;
@@ -28,15 +25,13 @@ use crate::told::{add_answer, add_reasons, add_union};
 use analysis::costs::Charge;
 use analysis::need::Need;
 use analysis::{Method, blocked_row, need, one_row};
-use answered::Answered;
-use endings::Ending;
+use endings::{Answered, Ending};
 use search::demand::Response;
 use std::alloc::{AllocError, Global};
 use std::io::Write;
 use streams::write_output;
 use table::Table;
 use table::accepted::{Accepted, Pending};
-use table::refusals::Refusal;
 
 // An explanation: its sentences, a line each, and a sum where there is one.
 #[derive(Drop)]
@@ -124,17 +119,7 @@ fn words_to(alloc: Global, text: &[u8], method: u64, position: u64) -> Result<Ve
     }
 }
 
-// How it ends where a response is told.
-fn ending_of_answer(answer: Result<Response, Refusal>) -> Result<Ending, Refusal>
-    ensures { result ≡ then_read answer (λ response. Ok (ending_of (has_response response))) }
-{
-    match answer {
-        Ok(response) => Ok(Ending::of_response(response)),
-        Err(refusal) => Err(refusal),
-    }
-}
-
-// Writes the explanation of what a method answers for the task at a position, in words, and nothing else. Each byte of the words is plain.
+// Writes the explanation of what a method answers for the task at a position, in words, and nothing else. Each byte of the words is printable.
 pub fn explain<W: Write>(
     alloc: Global,
     text: &[u8],
@@ -142,11 +127,11 @@ pub fn explain<W: Write>(
     position: u64,
     writer: &mut W,
 ) -> Result<Answered, AllocError>
-    ensures answers { IfOk result (λ answered. WritesAnswer (unless_refused (λ words. words) (words_to text.now method position)) (ending_for (Explain method position) text.now) (W.contents writer.old) (W.contents writer.new) answered) }
-    ensures plain { AllPass is_plain_byte (unless_refused (λ words. words) (words_to text.now method position)) }
+    ensures answers { IfOk result (λ answered. WritesAnswer (unless_refused (λ words. words) (words_to text.now method position)) (ending_explained text.now method position) (W.contents writer.old) (W.contents writer.new) answered) }
+    ensures printable { AllPass is_printable_byte (unless_refused (λ words. words) (words_to text.now method position)) }
 {
     let words = words_to(alloc, text, method, position)?;
-    let ending = ending_of_answer(crpd::answer(text, method, position));
+    let ending = Ending::of_answer(crpd::answer(text, method, position));
     Ok(Answered {
         ending,
         written: write_output(writer, words.as_slice()),

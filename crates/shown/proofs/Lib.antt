@@ -1,3 +1,4 @@
 mod MoreLines
+mod Printable
 mod Tables
 mod Texts

@@ -10,13 +10,12 @@ use Rattle.table.specs.Tasks.{name_text, limit_of}
 use Rattle.writing.specs.Text.{spelled}
 use Rattle.aligned.specs.declared.Tone.TheVariants.{Plain}
 use Rattle.aligned.specs.declared.Cell.{Cell}
-use Rattle.analysis.specs.Analysis.{response_of}
+use Rattle.analysis.specs.Analysis.{response_of, numbered}
 use Rattle.analysis.specs.Rows.{row_of, no_row}
 use Rattle.report.specs.VerdictRows.{answers_in}
 use Rattle.report.specs.Verdicts.{verdicts_in}
 use Rattle.report.proofs.Lists.{methods-same}
-use Rattle.crpd.specs.Operations.{numbered}
-use Rattle.crpd.proofs.Rows.{rows-hold, verdicts-are}
+use Rattle.report.proofs.RowAnswers.{rows-hold, verdicts-are}
 use Rattle.aligned.specs.Aligned.{Shown, shown_lines, aligned_text}
 use Rattle.shown.specs.Shown.{heading_cells, cell_of, answer_cell, task_cells, verdict_cells, report_lines, shown_of}
 

@@ -1,6 +1,6 @@
 -- The report of a table as people see it: headings, a line for each task, and which methods pass. In it `answers m i` is what method m answers for the
 -- task at position i.
-use Rattle.std.specs.Prelude.{◌≡◌, ℕ, Bool, true, false, List, [], ◌∷◌, ◌++◌, map, codes, Result, Ok, Err, IsOk}
+use Rattle.std.specs.Prelude.{◌≡◌, ℕ, Bool, true, false, List, [], ◌∷◌, ◌++◌, map, codes, Option, Result, Ok, Err, IsOk}
 use Rattle.search.specs.declared.demand.Response.{Response}
 use Rattle.search.specs.declared.demand.Response.TheVariants.{Within, Unschedulable}
 use Rattle.search.specs.Positions.{between}
@@ -9,12 +9,14 @@ use Rattle.table.specs.Tasks.{name_text, limit_of}
 use Rattle.table.specs.declared.Table.{Table}
 use Rattle.table.specs.Tables.{at}
 use Rattle.writing.specs.Text.{spelled}
-use Rattle.table.specs.declared.refusals.Refusal.{Refusal}
+use Rattle.texts.specs.declared.refusals.Refusal.{Refusal}
 use Rattle.table.specs.Reading.{read_text, ◌>>=◌}
-use Rattle.analysis.specs.Analysis.{response_of}
-use Rattle.report.specs.Verdicts.{method_numbers}
-use Rattle.crpd.specs.Operations.{numbered}
-use Rattle.report.specs.Verdicts.{verdicts_in}
+use Rattle.analysis.specs.Analysis.{response_of, numbered}
+use Rattle.report.specs.Verdicts.{method_numbers, verdicts_in, passes_to}
+use Rattle.endings.specs.declared.Ending.{Ending}
+use Rattle.endings.specs.Endings.{ending_of}
+use Rattle.endings.specs.declared.Answered.{Answered}
+use Rattle.endings.specs.Answered.{unless_refused, WritesAnswer}
 use Rattle.shown.specs.declared.Unshown.{Unshown}
 use Rattle.shown.specs.declared.Unshown.TheVariants.{Refused, NoMemory}
 use Rattle.aligned.specs.declared.Tone.{Tone}
@@ -69,6 +71,19 @@ unfoldable pub shown_to : Bool → List ℕ → Result (List ℕ) Refusal
 shown_to colours text = do
   table ← read_text text
   Ok (shown_of colours table)
+
+-- what is written of it; of a text that is refused nothing
+abbrev pub bytes_shown : Bool → List ℕ → List ℕ
+bytes_shown colours text = unless_refused (λ lines. lines) (shown_to colours text)
+
+-- how it ends: as the report does
+abbrev pub ending_shown : List ℕ → Result Ending Refusal
+ending_shown text = do
+  passes ← passes_to text
+  Ok (ending_of passes)
+
+abbrev pub ShowsTo : Bool → List ℕ → Option (List ℕ) → Option (List ℕ) → Answered → Type 0
+ShowsTo colours text before after answered = WritesAnswer (bytes_shown colours text) (ending_shown text) before after answered
 
 -- nothing is shown since the text is refused, or, of a text that is accepted, for lack of memory
 abbrev pub IsWhy : List ℕ → Unshown → Type 0

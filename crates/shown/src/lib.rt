@@ -1,26 +1,30 @@
-// The report as people see it: an aligned table, in colours or without.
+// The report as people see it: an aligned table, in colours or without, over any writer.
 #![tactic(auto)]
 
-ghost use Rattle.std.specs.Prelude.{◌≡◌, ◌≤◌, IfOk, IfErr, Ok, if◌then◌else◌};
+ghost use Rattle.std.specs.Prelude.{◌≡◌, ◌≤◌, IfOk, IfErr, Ok};
+ghost use Rattle.std.specs.Bool.{OnFalse};
+ghost use Rattle.std.specs.List.{AllPass};
+ghost use Rattle.writing.specs.Printable.{is_printable_byte};
+ghost use Rattle.analysis.specs.Analysis.{response_of, numbered};
 ghost use Rattle.report.specs.VerdictRows.{answer_under, answers_in};
-ghost use Rattle.analysis.specs.Analysis.{response_of};
-ghost use Rattle.report.specs.Verdicts.{every_verdict};
-ghost use Rattle.crpd.specs.declared.Outcome.TheVariants.{Passed, SomeUnschedulable};
-ghost use Rattle.crpd.specs.Operations.{numbered, outcome_to};
+ghost use Rattle.report.specs.Verdicts.{every_verdict, passes_to};
 ghost use Rattle.report.specs.Rows.{Reportable};
 ghost use Rattle.aligned.specs.Aligned.{shown_cell, cells_of, shown_lines};
-ghost use Rattle.shown.specs.Shown.{cell_of, heading_cells, answer_cell, task_cells, verdict_cell, verdict_cells, report_lines, shown_of, shown_to, IsWhy};
+ghost use Rattle.shown.specs.Shown.{cell_of, heading_cells, answer_cell, task_cells, verdict_cell, verdict_cells, report_lines, shown_of, shown_to, bytes_shown, IsWhy, ShowsTo};
 
 use aligned::{Cell, Content, Tone, aligned_bytes};
 use analysis::rows;
 use analysis::rows::Row;
+use endings::{Answered, Ending};
 use report::verdicts;
 use search::demand::Response;
 use std::alloc::{AllocError, Global};
+use std::io::Write;
+use streams::write_output;
 use table::Table;
 use table::accepted::Accepted;
-use table::refusals::Refusal;
 use table::tasks::Task;
+use texts::refusals::Refusal;
 
 fn heading<'a>(words: &'a [u8]) -> Cell<'a>
     ensures { shown_cell result ≡ cell_of Tone.Heading words.now }
@@ -142,7 +146,7 @@ fn lines<'a>(
 }
 
 // Why nothing is shown.
-pub enum Unshown {
+enum Unshown {
     Refused(Refusal),
     NoMemory,
 }
@@ -159,9 +163,9 @@ impl From<AllocError> for Unshown {
 
 // A text's report as people see it, and whether every method passes.
 #[derive(Drop)]
-pub struct Shown {
-    pub text: Vec<u8>,
-    pub passes: bool,
+struct Shown {
+    text: Vec<u8>,
+    passes: bool,
 }
 
 // The table of a table's report.
@@ -183,14 +187,37 @@ fn shown_in(alloc: Global, accepted: Accepted, colours: bool) -> Result<Shown, A
 }
 
 // The table of a text's report.
-pub fn show(alloc: Global, text: &[u8], colours: bool) -> Result<Shown, Unshown>
+fn report_shown(alloc: Global, text: &[u8], colours: bool) -> Result<Shown, Unshown>
     ensures shown { IfOk result (λ shown. Ok shown.text.items ≡ shown_to colours text.now) }
-    ensures passes { IfOk result (λ shown. (if shown.passes then Passed else SomeUnschedulable) ≡ outcome_to text.now) }
+    ensures passes { IfOk result (λ shown. Ok shown.passes ≡ passes_to text.now) }
     ensures refused { IfErr result (λ unshown. IsWhy text.now unshown) }
 {
     let mut table = Table::empty();
     match Accepted::read(text, &mut table) {
         Ok(accepted) => Ok(shown_in(alloc, accepted, colours)?),
         Err(refusal) => Err(Unshown::Refused(refusal)),
+    }
+}
+
+// Writes the report as people see it, and nothing else. It ends as the report does.
+pub fn show<W: Write>(
+    alloc: Global,
+    text: &[u8],
+    colours: bool,
+    writer: &mut W,
+) -> Result<Answered, AllocError>
+    ensures shows { IfOk result (λ answered. ShowsTo colours text.now (W.contents writer.old) (W.contents writer.new) answered) }
+    ensures printable { OnFalse colours (AllPass is_printable_byte (bytes_shown colours text.now)) }
+{
+    match report_shown(alloc, text, colours) {
+        Ok(shown) => Ok(Answered {
+            ending: Ok(Ending::of_responses(shown.passes)),
+            written: write_output(writer, shown.text.as_slice()),
+        }),
+        Err(Unshown::Refused(refusal)) => Ok(Answered {
+            ending: Err(refusal),
+            written: write_output(writer, b""),
+        }),
+        Err(Unshown::NoMemory) => Err(AllocError),
     }
 }

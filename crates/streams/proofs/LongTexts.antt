@@ -2,9 +2,9 @@
 use Rattle.std.proofs.Common.{◌≡◌, ℕ, ◌<◌, List, length, take, arith, refl, sym, ap, ◌∙◌, take_all, length-take-le}
 use Rattle.std.proofs.Math.Decide.{dec_lt}
 use Rattle.std.proofs.lemmas.Bool.{lt-ltb}
-use Rattle.table.specs.declared.refusals.Reason.TheVariants.{TooLong}
-use Rattle.table.specs.Faults.{no_field}
-use Rattle.table.specs.Rows.{unless_fault}
+use Rattle.texts.specs.declared.refusals.Reason.TheVariants.{TooLong}
+use Rattle.texts.specs.Faults.{no_field}
+use Rattle.texts.specs.Rows.{unless_fault}
 use Rattle.table.specs.Reading.{read_text, refused}
 
 pub too_long : (text : List ℕ) → 16384 < length text → read_text text ≡ refused (no_field TooLong) 0

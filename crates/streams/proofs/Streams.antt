@@ -87,3 +87,9 @@ all_written a b bs at past wrote = subst (Appends a b) (take_all at bs past) wro
 -- in a buffer of 16,385 bytes
 pub less_most : (a b : Option (List ℕ)) (most : ℕ) → ConsumesLess most a b → most ≡ 16385 → ConsumesLess 16385 a b
 less_most a b most p e = subst (λ m. ConsumesLess m a b) e p
+
+-- what came of it
+pub all_read : (had : Option (List ℕ)) (buf : List ℕ) (len : ℕ) → length buf ≡ 16385 → IfSome had (λ bytes. take len buf ≡ take (length buf) bytes)
+    → IfSome had (λ bytes. take len buf ≡ take 16385 bytes)
+all_read None buf len room came = tt
+all_read (Some bytes) buf len room came = came ∙ ap (λ n. take n bytes) room

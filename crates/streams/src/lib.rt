@@ -1,13 +1,15 @@
-// Reading and writing over any reader and any writer: all that a reader has, up to as many bytes as there is room for, and all bytes of a text. A call that a signal
-// interrupts is tried again.
+// Reading and writing over any reader and any writer: all that a reader has, up to as many bytes as there is room for, the text of a table, and all bytes of a text. A
+// call that a signal interrupts is tried again.
 #![tactic(auto)]
 
 ghost use Rattle.std.specs.Prelude.{◌≡◌, ◌≤◌, length, take, IfOk, OnOk, OnErr, IfSome};
 ghost use Rattle.std.specs.Io.{ReadsAtMost};
 ghost use Rattle.std.specs.Io.KnownBytes.{Appends, Consumes, ReadConsumes, WriteAppends};
-ghost use Rattle.streams.specs.Bytes.{ConsumesLess, AppendsPart};
+ghost use Rattle.streams.specs.Bytes.{ConsumesLess, AppendsPart, IsReadOf};
 
+use std::alloc::Global;
 use std::io::{self, ErrorKind, Read, Write};
+use table::Table;
 
 // One read. One that a signal interrupts is tried again; the tries are counted since a loop has to end.
 fn read_some<R: Read>(input: &mut R, buf: &mut [u8]) -> io::Result<usize>
@@ -44,6 +46,16 @@ pub fn read_input<R: Read>(input: &mut R, buf: &mut [u8]) -> io::Result<usize>
         len += more;
     }
     Ok(len)
+}
+
+// The text of a table that a reader has: all of it, or as many bytes as tell that it is too long. What follows is not read.
+pub fn read_text<R: Read>(alloc: Global, reader: &mut R) -> io::Result<Vec<u8>>
+    ensures text { IfOk result (λ text. IsReadOf (R.remaining reader.old) text.items) }
+    ensures taken { IfOk result (λ text. Consumes (R.remaining reader.old) (R.remaining reader.new) text.items) }
+{
+    let mut buf = [0u8; Table::LONGEST_TEXT + 1];
+    let len = read_input(reader, &mut buf)?;
+    Ok(Vec::from_slice(alloc, &buf[..len])?)
 }
 
 // One write, which takes some of the bytes. One that a signal interrupts is tried again, as is a read; one that takes none has failed.

@@ -1,9 +1,9 @@
 -- Whether line 1 has its shape, told from its fields.
 use Rattle.std.proofs.Common.{ℕ, suc, ◌≡◌, refl, Bool, true, false, ◌||◌, List, ◌∷◌, ◌⊎◌, inl, inr, length, codes}
 use Rattle.std.specs.Str.{bytes_eq}
-use Rattle.table.specs.Cut.{fields}
+use Rattle.texts.specs.Cut.{fields}
 use Rattle.table.specs.HeadLine.{is_head}
-use Rattle.table.proofs.Shapes.{other_count, other_letter, shaped}
+use Rattle.texts.proofs.Shapes.{other_count, other_letter, shaped}
 
 -- the number of fields is not the one, and not the other
 pub head-count : (line : List ℕ) → (length (fields line) ≡ 3 → ⊥) × (length (fields line) ≡ 4 → ⊥) → is_head line ≡ false

@@ -1,7 +1,7 @@
 -- What the tests on a task's numbers say.
 use Rattle.std.proofs.Common.{◌≡◌, ℕ, ◌≤◌, Bool, true, ◌&&◌, leb-true, leb}
 use Rattle.std.proofs.Math.Bool.{and-eq-true_iff}
-use Rattle.table.specs.Fields.{is_within}
+use Rattle.texts.specs.Fields.{is_within}
 use Rattle.table.specs.declared.tasks.Task.{Task}
 use Rattle.table.specs.TaskLine.{times_in_range, times_in_order}
 

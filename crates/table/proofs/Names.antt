@@ -3,9 +3,9 @@ use Rattle.std.proofs.Common.{ℕ, zero, suc, ◌≤◌, ◌≡◌, refl, sym, a
 use Rattle.std.proofs.Math.Bool.{and-eq-true_iff}
 use Rattle.std.proofs.lemmas.Bool.{false≢true}
 use Rattle.std.specs.List.{list_all}
-use Rattle.table.specs.Bytes.{is_name_byte}
-use Rattle.table.specs.Cut.{up_to}
-use Rattle.table.specs.Fields.{is_name}
+use Rattle.texts.specs.Bytes.{is_name_byte}
+use Rattle.texts.specs.Cut.{up_to}
+use Rattle.texts.specs.Fields.{is_name}
 use Rattle.table.specs.declared.tasks.name.Name.{Name}
 use Rattle.table.specs.Tasks.{pack_name, name_text}
 

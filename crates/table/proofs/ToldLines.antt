@@ -1,11 +1,11 @@
 -- What line a refusal of a text tells: one that a text of 16,384 bytes can have.
 use Rattle.std.proofs.Common.{◌≡◌, ℕ, ◌+◌, ◌≤◌, Bool, true, false, cond, List, [], ◌∷◌, length, arith, refl, Some, Result, Ok, Err, ltb-false}
-use Rattle.table.specs.Cut.{lines}
-use Rattle.table.proofs.Lines.{lines_long}
-use Rattle.table.specs.declared.refusals.Fault.{Fault}
-use Rattle.table.specs.declared.refusals.Refusal.{Refusal}
-use Rattle.table.specs.Rows.{Conditions, unless_fault}
-use Rattle.table.proofs.RowLaws.{fine-row}
+use Rattle.texts.specs.Cut.{lines}
+use Rattle.texts.proofs.LineSteps.{lines_long}
+use Rattle.texts.specs.declared.refusals.Fault.{Fault}
+use Rattle.texts.specs.declared.refusals.Refusal.{Refusal}
+use Rattle.texts.specs.Rows.{Conditions, unless_fault}
+use Rattle.texts.proofs.RowLaws.{fine-row}
 use Rattle.table.specs.HeadLine.{head_rows, head_said}
 use Rattle.table.specs.declared.Table.{Table}
 use Rattle.table.specs.Tables.{new_table}

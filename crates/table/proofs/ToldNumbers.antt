@@ -1,12 +1,12 @@
 -- The number of a text's refusal is at most 18: the reasons beyond are those of calls.
 use Rattle.std.proofs.Common.{ℕ, ◌+◌, ◌≤◌, Bool, true, false, cond, List, [], ◌∷◌, arith, Option, Some, None, Result, Ok, Err}
 use Rattle.std.specs.Prelude.{◌==◌}
-use Rattle.table.specs.Cut.{lines}
-use Rattle.table.specs.declared.refusals.Reason.TheVariants.{Shape, NoTask}
-use Rattle.table.specs.declared.refusals.Refusal.{Refusal}
-use Rattle.table.specs.Numbers.{reason_number}
-use Rattle.table.specs.Faults.{at_field, no_field}
-use Rattle.table.specs.Rows.{Conditions, unless_fault}
+use Rattle.texts.specs.Cut.{lines}
+use Rattle.texts.specs.declared.refusals.Reason.TheVariants.{Shape, NoTask}
+use Rattle.texts.specs.declared.refusals.Refusal.{Refusal}
+use Rattle.texts.specs.Numbers.{reason_number}
+use Rattle.texts.specs.Faults.{at_field, no_field}
+use Rattle.texts.specs.Rows.{Conditions, unless_fault}
 use Rattle.cache.specs.declared.useful.Form.{Form}
 use Rattle.table.specs.declared.tasks.Task.{Task}
 use Rattle.table.specs.HeadLine.{head_rows, head_said}

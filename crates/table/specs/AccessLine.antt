@@ -2,13 +2,13 @@
 use Rattle.std.specs.Prelude.{ℕ, List, [], ◌∷◌, ◌≡◌, true, not, length, is_some, unwrap_or, nat_le, nat_lt, ◌==◌}
 use Rattle.cache.specs.declared.units.TheConstants.Ticks.{LONGEST}
 use Rattle.std.specs.List.{position_or_len}
-use Rattle.table.specs.Cut.{field, field_count}
-use Rattle.table.specs.Fields.{number}
+use Rattle.texts.specs.Cut.{field, field_count}
+use Rattle.texts.specs.Fields.{number}
 use Rattle.cache.specs.declared.useful.Form.{Form}
 use Rattle.cache.specs.UsefulField.{read_useful, within_ways}
-use Rattle.table.specs.declared.refusals.Reason.TheVariants.{Shape, Marks, TooManyBlocks, OtherTask}
-use Rattle.table.specs.Faults.{at_field}
-use Rattle.table.specs.Rows.{Conditions, no_name, no_number, out_of_range}
+use Rattle.texts.specs.declared.refusals.Reason.TheVariants.{Shape, Marks, TooManyBlocks, OtherTask}
+use Rattle.texts.specs.Faults.{at_field}
+use Rattle.texts.specs.Rows.{Conditions, no_name, no_number, out_of_range}
 use Rattle.table.specs.declared.tasks.Task.{Task}
 use Rattle.table.specs.Names.{has_name}
 use Rattle.table.specs.Tasks.{pack_name, no_blocks}

@@ -6,11 +6,11 @@ use Rattle.cache.specs.declared.useful.TheConstants.Useful.{MOST_WAYS}
 use Rattle.cache.specs.declared.useful.Form.{Form}
 use Rattle.cache.specs.declared.useful.Form.TheVariants.{Hex, Digits}
 use Rattle.cache.specs.UsefulField.{ways_of}
-use Rattle.table.specs.Cut.{fields, field}
-use Rattle.table.specs.Fields.{number, read_number, is_of_kind, has_shape, is_within}
-use Rattle.table.specs.declared.refusals.Reason.TheVariants.{Shape, Number, Range}
-use Rattle.table.specs.Faults.{at_field}
-use Rattle.table.specs.Rows.{Conditions, no_number, out_of_range}
+use Rattle.texts.specs.Cut.{fields, field}
+use Rattle.texts.specs.Fields.{number, read_number, is_of_kind, has_shape, is_within}
+use Rattle.texts.specs.declared.refusals.Reason.TheVariants.{Shape, Number, Range}
+use Rattle.texts.specs.Faults.{at_field}
+use Rattle.texts.specs.Rows.{Conditions, no_number, out_of_range}
 use Rattle.table.specs.declared.tasks.head.Head.{Head}
 use Rattle.table.specs.declared.tasks.head.HeadFields.{HeadFields}
 

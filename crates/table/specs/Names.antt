@@ -5,7 +5,7 @@ use Rattle.std.specs.Str.{bytes_eq}
 use Rattle.table.specs.declared.tasks.name.Name.{Name}
 use Rattle.table.specs.declared.tasks.Task.{Task}
 use Rattle.table.specs.Tasks.{name_text, pack_name}
-use Rattle.table.specs.Fields.{is_name}
+use Rattle.texts.specs.Fields.{is_name}
 
 abbrev pub has_name : Name → Task → Bool
 has_name n t = bytes_eq t.name.bytes n.bytes

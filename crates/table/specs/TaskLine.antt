@@ -1,14 +1,14 @@
 -- What a task line says, field by field, and its refusals, each with its condition, in the order in which they are tried.
 use Rattle.std.specs.Prelude.{ℕ, List, [], ◌∷◌, Bool, ◌≡◌, true, not, ◌&&◌, is_some, unwrap_or, nat_le, nat_lt, ◌==◌}
 use Rattle.cache.specs.declared.units.TheConstants.Ticks.{LONGEST}
-use Rattle.table.specs.Cut.{field, field_count}
-use Rattle.table.specs.Fields.{number, is_within}
+use Rattle.texts.specs.Cut.{field, field_count}
+use Rattle.texts.specs.Fields.{number, is_within}
 use Rattle.cache.specs.declared.useful.Form.{Form}
 use Rattle.cache.specs.Field.{read_set}
 use Rattle.cache.specs.UsefulField.{read_useful, within_ways}
-use Rattle.table.specs.declared.refusals.Reason.TheVariants.{Shape, Marks, TooManyBlocks, KnownName}
-use Rattle.table.specs.Faults.{at_field}
-use Rattle.table.specs.Rows.{Conditions, no_name, no_number, out_of_range, out_of_order}
+use Rattle.texts.specs.declared.refusals.Reason.TheVariants.{Shape, Marks, TooManyBlocks, KnownName}
+use Rattle.texts.specs.Faults.{at_field}
+use Rattle.texts.specs.Rows.{Conditions, no_name, no_number, out_of_range, out_of_order}
 use Rattle.table.specs.declared.tasks.Task.{Task}
 use Rattle.table.specs.declared.tasks.line.TaskFields.{TaskFields}
 use Rattle.table.specs.Names.{knows}

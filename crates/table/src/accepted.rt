@@ -4,9 +4,9 @@ ghost use Rattle.std.specs.Prelude.{◌<◌};
 ghost use Rattle.table.specs.Accepted.{AcceptedTable};
 
 use crate::Table;
-use crate::refusals::Refusal;
 use crate::tasks::Task;
 use cache::units::Ticks;
+use texts::refusals::Refusal;
 
 // A table that the reader accepted.
 #[derive(Clone, Copy)]

@@ -6,12 +6,12 @@ use Rattle.std.proofs.lemmas.List.Sums.{position_or_len_is, passes_at_first}
 use Rattle.std.specs.Prelude.{is_some, unwrap_or}
 use Rattle.std.specs.List.{position_or_len}
 use Rattle.std.proofs.lemmas.Bool.{not-false}
-use Rattle.table.specs.Cut.{fields, field, field_count}
-use Rattle.table.specs.Fields.{is_name, is_number, number, is_within}
+use Rattle.texts.specs.Cut.{fields, field, field_count}
+use Rattle.texts.specs.Fields.{is_name, is_number, number, is_within}
 use Rattle.cache.specs.declared.useful.Form.{Form}
 use Rattle.cache.specs.UsefulField.{ways_of, read_useful, within_ways}
-use Rattle.table.specs.Rows.{unless_fault}
-use Rattle.table.proofs.RowLaws.{fine-row}
+use Rattle.texts.specs.Rows.{unless_fault}
+use Rattle.texts.proofs.RowLaws.{fine-row}
 use Rattle.table.specs.declared.tasks.name.Name.{Name}
 use Rattle.table.specs.declared.tasks.Task.{Task}
 use Rattle.table.specs.Tasks.{name_text, pack_name, no_blocks, blank}

@@ -6,8 +6,8 @@ use Rattle.std.specs.List.{All, list_all, join_with_byte}
 use Rattle.std.proofs.lemmas.List.Splits.{slice_split_none, slice_split_at}
 use Rattle.std.proofs.lemmas.List.Sums.{AllPass-from_list_all}
 use Rattle.std.proofs.lemmas.List.Folds.{list_all-append}
-use Rattle.table.specs.Cut.{fields, lead, lines}
-use Rattle.table.proofs.Lines.{lines_step}
+use Rattle.texts.specs.Cut.{fields, lead, lines}
+use Rattle.texts.proofs.LineSteps.{lines_step}
 use Rattle.table.specs.Reading.{is_ended}
 use Rattle.table_text.specs.TableText.{line_text}
 

@@ -2,24 +2,24 @@
 use Rattle.std.proofs.Common.{ℕ, ◌+◌, ◌-◌, ◌*◌, ◌/◌, ◌%◌, ◌≤◌, ◌<◌, ◌≡◌, refl, ap, ◌∙◌, Bool, true, false, cond, not, ◌&&◌, ◌||◌, List, [], ◌∷◌, ◌++◌, arith, le-leb, ne_eqb, leb, eqb, length, get_or}
 use Rattle.std.proofs.Math.Decide.{dec_lt}
 use Rattle.std.specs.Prelude.{Option, Some, None, is_some}
-use Rattle.cache.specs.UsefulField.{is_digit}
-use Rattle.table.specs.Fields.{read_digits, read_number, is_number, number}
-use Rattle.table.proofs.Spelling.{number-unique}
+use Rattle.std.specs.Char.{is_ascii_digit}
+use Rattle.texts.specs.Fields.{read_digits, read_number, is_number, number}
+use Rattle.texts.proofs.Spelling.{number-unique}
 use Rattle.writing.specs.Text.{digit_byte, spelled}
 use Rattle.writing.proofs.Spelling.{spelled_low, spelled_high, spelled_short, by_digits}
 
 -- one digit more at the end
-digit-more : (s : List ℕ) (b a v : ℕ) → is_digit b ≡ true → read_digits a s ≡ Some v → read_digits a (s ++ (b ∷ [])) ≡ Some (v * 10 + (b - 48))
+digit-more : (s : List ℕ) (b a v : ℕ) → is_ascii_digit b ≡ true → read_digits a s ≡ Some v → read_digits a (s ++ (b ∷ [])) ≡ Some (v * 10 + (b - 48))
 unfolding read_digits
 digit-more [] b a v d e = let q : a ≡ v = cc in rw (d, q)
-digit-more (c ∷ s) b a v d e = go (is_digit c) (λ h. digit-more s b (a * 10 + (c - 48)) v d h) e
+digit-more (c ∷ s) b a v d e = go (is_ascii_digit c) (λ h. digit-more s b (a * 10 + (c - 48)) v d h) e
   where
     go : (t : Bool) → (read_digits (a * 10 + (c - 48)) s ≡ Some v → read_digits (a * 10 + (c - 48)) (s ++ (b ∷ [])) ≡ Some (v * 10 + (b - 48)))
         → cond t (read_digits (a * 10 + (c - 48)) s) None ≡ Some v → cond t (read_digits (a * 10 + (c - 48)) (s ++ (b ∷ []))) None ≡ Some (v * 10 + (b - 48))
     go true ih h = ih h
     go false ih h = let z : ◌≡◌ {A = ℕ} 0 1 = cc in absurd (omega arith)
 
-digit-is : (d : ℕ) → d < 10 → is_digit (digit_byte d) ≡ true
+digit-is : (d : ℕ) → d < 10 → is_ascii_digit (digit_byte d) ≡ true
 digit-is d h = rw (le-leb 48 (48 + d) (omega arith), le-leb (48 + d) 57 (omega arith))
 
 pub digits-read : (n : ℕ) → read_digits 0 (spelled n) ≡ Some n

@@ -4,8 +4,8 @@ use Rattle.std.proofs.Math.Bool.{and-eq-true_iff}
 use Rattle.std.proofs.lemmas.Bool.{false≢true, lt-leb}
 use Rattle.std.specs.List.{list_all}
 use Rattle.std.proofs.Math.Decide.{dec_lt}
-use Rattle.table.specs.Bytes.{is_name_byte}
-use Rattle.table.specs.Fields.{is_name}
+use Rattle.texts.specs.Bytes.{is_name_byte}
+use Rattle.texts.specs.Fields.{is_name}
 use Rattle.cache.specs.declared.sets.CacheSet.{CacheSet}
 use Rattle.cache.specs.Words.{number_of}
 use Rattle.writing.specs.Text.{digit_byte, spelled, hex_byte, hex_digits}

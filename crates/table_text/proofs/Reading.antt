@@ -5,13 +5,13 @@ use Rattle.std.proofs.lemmas.Bool.{false≢true, eqb-false, not-false}
 use Rattle.std.proofs.lemmas.List.{map-append}
 use Rattle.std.proofs.lemmas.List.Folds.{list_all-append}
 use Rattle.std.specs.List.{list_all}
-use Rattle.table.specs.Cut.{fields, lines}
-use Rattle.table.specs.declared.refusals.Fault.{Fault}
-use Rattle.table.specs.declared.refusals.Reason.TheVariants.{Shape, NoTask}
-use Rattle.table.specs.declared.refusals.Refusal.{Refusal}
-use Rattle.table.specs.Faults.{at_field, no_field}
-use Rattle.table.specs.Rows.{Conditions, unless_fault}
-use Rattle.table.proofs.RowLaws.{fine-any, fine-row}
+use Rattle.texts.specs.Cut.{fields, lines}
+use Rattle.texts.specs.declared.refusals.Fault.{Fault}
+use Rattle.texts.specs.declared.refusals.Reason.TheVariants.{Shape, NoTask}
+use Rattle.texts.specs.declared.refusals.Refusal.{Refusal}
+use Rattle.texts.specs.Faults.{at_field, no_field}
+use Rattle.texts.specs.Rows.{Conditions, unless_fault}
+use Rattle.texts.proofs.RowLaws.{fine-any, fine-row}
 use Rattle.cache.specs.declared.useful.Form.{Form}
 use Rattle.table.specs.declared.tasks.Task.{Task}
 use Rattle.table.specs.declared.tasks.head.Head.{Head}

@@ -8,12 +8,12 @@ use Rattle.std.proofs.lemmas.List.Folds.{flat_map-map}
 use Rattle.std.proofs.lemmas.List.Splits.{join_with_byte-slice_split}
 use Rattle.std.specs.Prelude.{IsTrue, ◌↔◌}
 use Rattle.std.specs.List.{list_all, list_any, join_with_byte}
-use Rattle.table.specs.Cut.{fields, lines}
-use Rattle.table.specs.declared.refusals.Refusal.{Refusal}
-use Rattle.table.specs.declared.refusals.Reason.TheVariants.{NoTask}
-use Rattle.table.specs.Faults.{no_field}
-use Rattle.table.specs.Rows.{Conditions, unless_fault}
-use Rattle.table.proofs.RowLaws.{fine-any}
+use Rattle.texts.specs.Cut.{fields, lines}
+use Rattle.texts.specs.declared.refusals.Refusal.{Refusal}
+use Rattle.texts.specs.declared.refusals.Reason.TheVariants.{NoTask}
+use Rattle.texts.specs.Faults.{no_field}
+use Rattle.texts.specs.Rows.{Conditions, unless_fault}
+use Rattle.texts.proofs.RowLaws.{fine-any}
 use Rattle.cache.specs.declared.useful.Form.{Form}
 use Rattle.cache.specs.UsefulField.{ways_of}
 use Rattle.table.specs.declared.tasks.Task.{Task}

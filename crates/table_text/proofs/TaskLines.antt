@@ -5,14 +5,14 @@ use Rattle.std.proofs.lemmas.Bool.{false≢true, not-false, not-true}
 use Rattle.std.proofs.lemmas.Slice.Eq.{bytes_eq-Decides}
 use Rattle.std.specs.Prelude.{is_some, unwrap_or, option_map, slice_get}
 use Rattle.std.specs.Str.{bytes_eq}
-use Rattle.table.specs.Cut.{fields, field, field_count}
-use Rattle.table.specs.Fields.{is_of_kind, is_name, read_number, is_number, number, has_shape, is_within}
+use Rattle.texts.specs.Cut.{fields, field, field_count}
+use Rattle.texts.specs.Fields.{is_of_kind, is_name, read_number, is_number, number, has_shape, is_within}
 use Rattle.cache.specs.Field.{read_set}
 use Rattle.cache.specs.declared.useful.Form.{Form}
 use Rattle.cache.specs.declared.useful.Form.TheVariants.{Hex, Digits}
 use Rattle.cache.specs.UsefulField.{ways_of, read_useful, within_ways}
-use Rattle.table.specs.Rows.{unless_fault}
-use Rattle.table.proofs.RowLaws.{fine-row}
+use Rattle.texts.specs.Rows.{unless_fault}
+use Rattle.texts.proofs.RowLaws.{fine-row}
 use Rattle.table.specs.declared.tasks.name.Name.{Name}
 use Rattle.table.specs.declared.tasks.Task.{Task}
 use Rattle.table.specs.declared.tasks.head.Head.{Head}

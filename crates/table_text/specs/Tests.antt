@@ -3,7 +3,7 @@ use Rattle.std.specs.Prelude.{ℕ, Bool, true, not, ◌&&◌, List, [], ◌∷�
 use Rattle.cache.specs.declared.units.TheConstants.Ticks.{LONGEST}
 use Rattle.std.specs.List.{list_all}
 use Rattle.std.specs.Str.{bytes_eq}
-use Rattle.table.specs.Fields.{is_within}
+use Rattle.texts.specs.Fields.{is_within}
 use Rattle.table.specs.declared.tasks.Task.{Task}
 use Rattle.table.specs.declared.tasks.head.Head.{Head}
 use Rattle.table.specs.HeadLine.{head_in_range}

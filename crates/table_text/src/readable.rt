@@ -9,10 +9,11 @@ ghost use Rattle.table_text.specs.Tests.{head_of, is_next, are_next, is_entered,
 use crate::extent;
 use cache::units::Ticks;
 use cache::useful::Form;
+use table::Table;
 use table::accepted::Accepted;
 use table::accesses::Access;
 use table::tasks::{Head, Task, is_known};
-use table::{Table, fields};
+use texts::fields;
 use writing::marks::{marks_fit, useful_fits};
 
 // Whether a line can say a task in a table of this form with so many cache sets, below these tasks.

@@ -9,8 +9,8 @@ use std::io::{self, Print};
 use table::Table;
 use table::accepted::Accepted;
 use table::accesses::Access;
-use table::refusals::Refusal;
 use table::tasks::Task;
+use texts::refusals::Refusal;
 
 fn say_refusal(out: &impl Print, refusal: Refusal) -> io::Result<()> {
     print!(out; " refused {} {}", refusal.reason.number(), refusal.line)

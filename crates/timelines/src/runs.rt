@@ -4,9 +4,9 @@ use replay::ticks::{self, LONGEST_PAGE, PAGE};
 use std::alloc::{AllocError, Global};
 use table::Table;
 use table::accepted::Accepted;
-use table::fields::read_number;
 use table::tasks::Task;
-use table::text::{Fields, Lines};
+use texts::fields::read_number;
+use texts::lines::{Fields, Lines};
 
 // Ticks one after the other in which one job runs: of which task, from when to when, and whether the job ends there.
 #[derive(Clone, Copy)]

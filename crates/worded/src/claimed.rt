@@ -3,7 +3,6 @@
 use crate::{Done, name_of, ticks, word};
 use analysis::Method;
 use claims::finding::{Finding, judge};
-use refused::wording;
 use search::demand::Response;
 use std::alloc::{AllocError, Global};
 use std::fmt::Write;

@@ -8,7 +8,6 @@ pub mod moved;
 // Earliest deadline first: the first time at which too much is asked for.
 pub mod overrun;
 
-use refused::wording;
 use std::alloc::{AllocError, Global};
 
 type Done = Result<(), AllocError>;

@@ -6,7 +6,6 @@ use changes::figures::{Column, Value};
 use changes::harder::Relation;
 use changes::{Comparison, FateChange, FigureChange, Line, ResponseChange};
 use lists::Fate;
-use refused::wording;
 use search::demand::Response;
 use std::alloc::{AllocError, Global};
 

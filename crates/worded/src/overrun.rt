@@ -6,7 +6,6 @@ ghost use Rattle.edf.specs.Bound.{Timed};
 use crate::ticks;
 use cache::units::Ticks;
 use edf::charges::{self, ChargedTask};
-use refused::wording;
 use sentences::sums::{Part, add_sum};
 use std::alloc::{AllocError, Global};
 use table::accepted::Accepted;

@@ -5,7 +5,8 @@ use Rattle.std.proofs.Math.Decide.{dec_lt}
 use Rattle.std.proofs.Math.Path.{fun_ext}
 use Rattle.std.specs.List.{list_all}
 use Rattle.cache.specs.Counts.{Counts, nothing}
-use Rattle.cache.specs.UsefulField.{is_digit, push, read_counts, counts_of}
+use Rattle.std.specs.Char.{is_ascii_digit}
+use Rattle.cache.specs.UsefulField.{push, read_counts, counts_of}
 use Rattle.cache.proofs.UsefulLaws.{read_past, past}
 use Rattle.writing.specs.Marks.{count_digits}
 
@@ -45,7 +46,7 @@ written-counts sets U none =
       | no l ↦ past (count_digits sets U) s (omega (arith, counts-long sets U)) ∙ sym (none s (omega arith))
     ])
 
-pub digits-are : (n : ℕ) (U : Counts) → ((s : ℕ) → U s ≤ 9) → list_all is_digit (count_digits n U) ≡ true
+pub digits-are : (n : ℕ) (U : Counts) → ((s : ℕ) → U s ≤ 9) → list_all is_ascii_digit (count_digits n U) ≡ true
 unfolding count_digits
 digits-are zero U h = refl
 digits-are (suc n) U h = rw (le-leb 48 (48 + U n) (omega arith), le-leb (48 + U n) 57 (omega (arith, h n))) (digits-are n U h)
@@ -57,11 +58,11 @@ digits-within ways (suc n) U h = rw (le-leb (48 + U n - 48) ways (omega (arith, 
 
 -- ---- and what is read is what is written of it
 
-pub read-written : (f : List ℕ) (W : Counts) → list_all is_digit f ≡ true → count_digits (length f) (read_counts W f) ≡ f
+pub read-written : (f : List ℕ) (W : Counts) → list_all is_ascii_digit f ≡ true → count_digits (length f) (read_counts W f) ≡ f
 unfolding count_digits read_counts push
 read-written [] W e = refl
 read-written (b ∷ f) W e =
-    let p = (and-eq-true_iff (is_digit b) (list_all is_digit f)).0 e in
+    let p = (and-eq-true_iff (is_ascii_digit b) (list_all is_ascii_digit f)).0 e in
     let q = (and-eq-true_iff (leb 48 b) (leb b 57)).0 p.0 in
     let least = leb-true 48 b q.0 in
     let n : length f ≡ length f + 0 = omega arith in

@@ -3,10 +3,10 @@ use Rattle.std.proofs.Common.{◌≡◌, refl, sym, ap, ap₂, ◌∙◌, ℕ, �
 use Rattle.std.proofs.Math.Seq.{drop-append-add}
 use Rattle.std.proofs.lemmas.List.{drop-drop, take-append-drop}
 use Rattle.std.proofs.lemmas.Bool.{lt-leb}
-use Rattle.table.specs.declared.refusals.Reason.TheVariants.{ShortBuffer}
-use Rattle.table.specs.declared.refusals.Refusal.{Refusal}
-use Rattle.table.specs.Numbers.{reason_number, untold}
-use Rattle.table.proofs.NumberLaws.{number-small}
+use Rattle.texts.specs.declared.refusals.Reason.TheVariants.{ShortBuffer}
+use Rattle.texts.specs.declared.refusals.Refusal.{Refusal}
+use Rattle.texts.specs.Numbers.{reason_number, untold}
+use Rattle.texts.proofs.NumberLaws.{number-small}
 use Rattle.writing.proofs.Spelling.{spelled_short}
 use Rattle.writing.specs.Delivery.{PutsText, PutsTextAt, DeliversText}
 use Rattle.writing.specs.Error.{error_text}

@@ -8,3 +8,4 @@ pub mod Fields
 pub mod UsefulFields
 pub mod UsefulReads
 pub mod Deliveries
+pub mod Printable

@@ -15,7 +15,8 @@ use Rattle.cache.specs.Words.{words_of, members, is_blank, is_part}
 use Rattle.cache.specs.Field.{read_set}
 use Rattle.cache.specs.Counts.{Counts, nothing, of_set, ◌⊕◌, capped}
 use Rattle.cache.specs.Levels.{set_at, heights, counts, above, number_below, set_of, leveled, marked}
-use Rattle.cache.specs.UsefulField.{ways_of, is_digit, push, counts_of, read_counts, read_useful, within_ways}
+use Rattle.std.specs.Char.{is_ascii_digit}
+use Rattle.cache.specs.UsefulField.{ways_of, push, counts_of, read_counts, read_useful, within_ways}
 use Rattle.cache.proofs.WordLaws.{WordsInRange, each, members-and, members-inj}
 use Rattle.cache.proofs.CountLaws.{capped-within}
 use Rattle.cache.proofs.UsefulLaws.{members-set, past}
@@ -207,13 +208,13 @@ module _ (sets : ℕ) (few : sets ≤ 256) (by-four : sets % 4 ≡ 0) where
   useful-says Hex f u w e h =
       hex-says sets f u (read_set sets f) e
       (λ c p. (marked-fits sets c few (read_fits sets few by-four f c p), read-text sets few by-four f c p))
-  useful-says (Digits ways) f u w e h = go (leb sets 256 && eqb (length f) sets && list_all is_digit f) refl e
+  useful-says (Digits ways) f u w e h = go (leb sets 256 && eqb (length f) sets && list_all is_ascii_digit f) refl e
     where
-      go : (t : Bool) → (leb sets 256 && eqb (length f) sets && list_all is_digit f) ≡ t → cond t (Some (leveled (capped ways (counts_of f)))) None ≡ Some u
+      go : (t : Bool) → (leb sets 256 && eqb (length f) sets && list_all is_ascii_digit f) ≡ t → cond t (Some (leveled (capped ways (counts_of f)))) None ≡ Some u
           → (useful_fits (Digits ways) sets u ≡ true) × (f ≡ count_digits sets (counts ways u))
       go false t e = let z : ◌≡◌ {A = ℕ} 0 1 = cc in absurd (omega arith)
       go true t e =
-          let q = (and-eq-true_iff _ (list_all is_digit f)).0 t in
+          let q = (and-eq-true_iff _ (list_all is_ascii_digit f)).0 t in
           let long : length f ≡ sets = eqb-true _ _ ((and-eq-true_iff (leb sets 256) (eqb (length f) sets)).0 q.0).1 in
           let small = within-of ways f nothing (λ s. zero-start ways s) h in
           let none = λ (s : ℕ) (l : sets ≤ s). past f s (omega (arith, long)) in

@@ -1,8 +1,8 @@
 -- What a writer of a whole text answers, and what the buffer then holds.
 use Rattle.std.specs.Prelude.{ℕ, ◌+◌, ◌≡◌, List, ◌++◌, length, take, drop, Result, Ok, Err, if◌then◌else◌, nat_le}
-use Rattle.table.specs.declared.refusals.Reason.TheVariants.{ShortBuffer}
-use Rattle.table.specs.declared.refusals.Refusal.{Refusal}
-use Rattle.table.specs.Numbers.{untold}
+use Rattle.texts.specs.declared.refusals.Reason.TheVariants.{ShortBuffer}
+use Rattle.texts.specs.declared.refusals.Refusal.{Refusal}
+use Rattle.texts.specs.Numbers.{untold}
 
 -- the text at the buffer's start, and after it the buffer as it was
 pub record PutsText (text before : List ℕ) (end : ℕ) (after : List ℕ) : Type 0 where

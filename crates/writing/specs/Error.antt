@@ -1,7 +1,7 @@
 -- The line of a refusal.
 use Rattle.std.specs.Prelude.{ℕ, List, [], ◌∷◌, codes}
-use Rattle.table.specs.declared.refusals.Refusal.{Refusal}
-use Rattle.table.specs.Numbers.{reason_number}
+use Rattle.texts.specs.declared.refusals.Refusal.{Refusal}
+use Rattle.texts.specs.Numbers.{reason_number}
 use Rattle.writing.specs.Text.{spelled, line_of}
 
 -- `E`, number, line

@@ -6,7 +6,7 @@ ghost use Rattle.writing.specs.Delivery.{PutsText, PutsTextAt, DeliversText};
 ghost use Rattle.writing.specs.Error.{error_text};
 
 use crate::writer::Draft;
-use table::refusals::{Reason, Refusal};
+use texts::refusals::{Reason, Refusal};
 
 // A text at the start of a buffer: how long it is.
 pub fn put(text: &[u8], out: &mut [u8]) -> usize

@@ -1,6 +1,7 @@
 -- What is answered about the first bytes is answered about all of them.
 use Rattle.answered.specs.Answered.{bytes_for, ending_for}
-use Rattle.answered.proofs.Lines.{wrote, answers}
+use Rattle.endings.proofs.Written.{wrote}
+use Rattle.answered.proofs.Lines.{answers}
 use Rattle.answered.proofs.Fronts.{answers_whole}
 use Rattle.answered.proofs.answer.Goals as goal
 

@@ -1,6 +1,6 @@
 -- The rows hold the responses of the table.
 use Rattle.std.proofs.Common.{refl, arith, ◌∙◌}
-use Rattle.crpd.proofs.Rows.{reportable, every-is}
+use Rattle.report.proofs.RowAnswers.{every-is, reportable}
 use Rattle.bars.proofs.Reports.{report-drawn}
 use Rattle.bars.proofs.draw_report.Goals as goal
 

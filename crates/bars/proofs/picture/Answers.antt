@@ -1,5 +1,6 @@
 -- By what is read.
-use Rattle.bars.proofs.Reports.{text-drawn, text-passes}
+use Rattle.report.proofs.RowAnswers.{text-passes}
+use Rattle.bars.proofs.Reports.{text-drawn}
 use Rattle.bars.proofs.picture.Goals as goal
 
 pub returns-in_ok-draw_report-in-Ok-clause-drawn : goal.returns-in_ok-draw_report-in-Ok-clause-drawn

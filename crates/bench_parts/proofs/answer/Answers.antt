@@ -1,6 +1,6 @@
 -- The first answer of the rows is the first task's.
 use Rattle.std.proofs.Common.{ap, ◌∙◌, add-one, arith}
-use Rattle.crpd.proofs.Rows.{rows-hold}
+use Rattle.report.proofs.RowAnswers.{rows-hold}
 use Rattle.crpd.specs.Codes.{ticks_of}
 use Rattle.bench_parts.proofs.answer.Goals as goal
 

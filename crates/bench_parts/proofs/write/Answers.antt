@@ -1,5 +1,5 @@
 -- Each turn writes the same report.
-use Rattle.crpd.proofs.Rows.{reportable, report-is}
+use Rattle.report.proofs.RowAnswers.{reportable, report-is}
 use Rattle.bench_parts.proofs.Turns.{turn_more}
 use Rattle.bench_parts.proofs.write.Goals as goal
 

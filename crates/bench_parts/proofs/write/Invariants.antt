@@ -1,5 +1,5 @@
 -- What the turns so far leave.
-use Rattle.crpd.specs.Operations.{report_in}
+use Rattle.report.specs.Report.{report_in}
 use Rattle.bench_parts.specs.Parts.{Repeated}
 use Rattle.bench_parts.proofs.write.Given as goal
 

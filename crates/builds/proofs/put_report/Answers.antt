@@ -1,7 +1,7 @@
 -- The rows hold the responses of the table, and the longest report fits.
 use Rattle.std.proofs.Common.{◌≡◌, ◌≤◌, length, arith}
-use Rattle.crpd.specs.Operations.{report_in}
-use Rattle.crpd.proofs.Rows.{reportable}
+use Rattle.report.specs.Report.{report_in}
+use Rattle.report.proofs.RowAnswers.{reportable}
 use Rattle.builds.proofs.Answers.{is-judged, report-put}
 use Rattle.builds.proofs.put_report.Goals as goal
 

@@ -1,7 +1,7 @@
 -- `growth::most_by_charges` meets its contract.
 use Rattle.std.proofs.Common.{◌+◌, ◌/◌, ◌≤◌, sym, ap, ◌∙◌, arith}
 use Rattle.analysis.proofs.JoinLaws.{row-few}
-use Rattle.analysis.specs.Verdict.{has_response}
+use Rattle.search.specs.Least.{has_response}
 use Rattle.search.proofs.CountLaws.{ones-started}
 use Rattle.growth.proofs.BoundLaws.{bounds-all, spans-none}
 use Rattle.growth.proofs.TriedLaws.{at-limit, stretches-less, tried-handed, tried-demand, tried-least, tried-descends, started-in, started-out, started-ones, started-more}

@@ -1,6 +1,6 @@
 -- The lines so far, and those that are left, are all lines.
 use Rattle.std.proofs.Common.{◌≡◌, ◌++◌}
-use Rattle.table.specs.Cut.{lines}
+use Rattle.texts.specs.Cut.{lines}
 use Rattle.lists.specs.Together.{lent_of}
 use Rattle.lists.proofs.add_lines.Given as goal
 

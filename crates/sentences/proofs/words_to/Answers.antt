@@ -1,6 +1,6 @@
 -- By what is read.
 use Rattle.std.proofs.Common.{◌≡◌, sym, subst, ◌∙◌, IfOk}
-use Rattle.answered.specs.Answered.{unless_refused}
+use Rattle.endings.specs.Answered.{unless_refused}
 use Rattle.sentences.proofs.Texts.{words-read}
 use Rattle.sentences.proofs.words_to.Goals as goal
 

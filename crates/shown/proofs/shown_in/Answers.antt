@@ -1,6 +1,6 @@
 -- The rows hold the responses of the table.
 use Rattle.std.proofs.Common.{arith, ◌∙◌}
-use Rattle.crpd.proofs.Rows.{reportable, every-is}
+use Rattle.report.proofs.RowAnswers.{every-is, reportable}
 use Rattle.shown.proofs.Tables.{shown-is}
 use Rattle.shown.proofs.shown_in.Goals as goal
 

@@ -1,17 +1,18 @@
 // An access line.
 ghost use Rattle.std.specs.Prelude.{◌≡◌, false, MatchOption, ◌==◌};
-ghost use Rattle.table.specs.Cut.{field_count};
-ghost use Rattle.table.specs.Rows.{unless_fault};
+ghost use Rattle.texts.specs.Cut.{field_count};
+ghost use Rattle.texts.specs.Rows.{unless_fault};
 ghost use Rattle.table.specs.AccessLine.{AreAccessFields, access_rows, access_said};
 
 use crate::accesses::Access;
-use crate::refusals::{Fault, Reason};
+use crate::tasks;
 use crate::tasks::{Name, Task};
-use crate::text::Fields;
-use crate::{fields, tasks};
 use cache::units::Ticks;
 use cache::useful;
 use cache::useful::{Form, Useful};
+use texts::fields;
+use texts::lines::Fields;
+use texts::refusals::{Fault, Reason};
 
 // The fields of an access line, behind the first, which says of what kind the line is.
 #[derive(Clone, Copy)]
@@ -38,7 +39,7 @@ fn cut(line: &[u8]) -> Option<AccessFields<'_>>
 
 impl Access {
     // The access that a line says in a table of this form with so many cache sets, below these tasks, or its first refusal.
-    #[tactic(auto, using(std::proofs::lemmas::Bool::Decides::nat_tests), unfolding(crate::specs::AccessLine::access_rows, crate::specs::AccessLine::access_said, crate::specs::Rows::unless_fault))]
+    #[tactic(auto, using(std::proofs::lemmas::Bool::Decides::nat_tests), unfolding(crate::specs::AccessLine::access_rows, crate::specs::AccessLine::access_said, texts::specs::Rows::unless_fault))]
     pub fn read(line: &[u8], form: Form, sets: u64, tasks: &[Task]) -> Result<Access, Fault>
         ensures { result ≡ unless_fault (access_rows form sets tasks.now line.now) (access_said form sets tasks.now line.now) }
     {

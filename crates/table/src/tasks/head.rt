@@ -1,14 +1,14 @@
 // Line 1 of a table.
 ghost use Rattle.std.specs.Prelude.{◌≡◌, false, MatchOption, option_map};
-ghost use Rattle.table.specs.Rows.{unless_fault};
+ghost use Rattle.texts.specs.Rows.{unless_fault};
 ghost use Rattle.table.specs.HeadLine.{AreHeadFields, is_head, read_form, are_sets_in_range, head_in_range, head_rows, head_said};
 
-use crate::fields;
-use crate::refusals::{Fault, Reason};
-use crate::text::{Fields, first_field};
 use cache::sets::CacheSet;
 use cache::units::Ticks;
 use cache::useful::{Form, Useful};
+use texts::fields;
+use texts::lines::{Fields, first_field};
+use texts::refusals::{Fault, Reason};
 
 // The number of cache sets, the ticks that a block reload takes, and how useful blocks are written.
 #[derive(Clone, Copy)]
@@ -80,7 +80,7 @@ impl Head {
     }
 
     // What line 1 says, or its first refusal.
-    #[tactic(auto, unfolding(crate::specs::HeadLine::head_said, crate::specs::Rows::unless_fault))]
+    #[tactic(auto, unfolding(crate::specs::HeadLine::head_said, texts::specs::Rows::unless_fault))]
     pub fn read(line: &[u8]) -> Result<Head, Fault>
         ensures { result ≡ unless_fault (head_rows line.now) (head_said line.now) }
     {

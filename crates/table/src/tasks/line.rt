@@ -1,22 +1,22 @@
 // A task line.
 ghost use Rattle.std.specs.Prelude.{◌≡◌, false, not, ◌&&◌, [], ◌∷◌, MatchOption, ◌==◌};
 ghost use Rattle.cache.specs.declared.units.TheConstants.Ticks.{LONGEST};
-ghost use Rattle.table.specs.Cut.{field_count};
-ghost use Rattle.table.specs.Rows.{unless_fault};
-ghost use Rattle.table.specs.Fields.{is_number, number, is_within};
-ghost use Rattle.table.specs.declared.refusals.Reason.TheVariants.{Number, Range};
-ghost use Rattle.table.specs.Faults.{at_field};
+ghost use Rattle.texts.specs.Cut.{field_count};
+ghost use Rattle.texts.specs.Rows.{unless_fault};
+ghost use Rattle.texts.specs.Fields.{is_number, number, is_within};
+ghost use Rattle.texts.specs.declared.refusals.Reason.TheVariants.{Number, Range};
+ghost use Rattle.texts.specs.Faults.{at_field};
 ghost use Rattle.table.specs.TaskLine.{AreTaskFields, times_in_range, times_in_order, task_rows, task_said, blocking_said};
 
-use crate::fields;
-use crate::refusals::{Fault, Reason};
 use crate::tasks::Task;
 use crate::tasks::name::{Name, is_known};
-use crate::text::Fields;
 use cache::sets::CacheSet;
 use cache::units::Ticks;
 use cache::useful;
 use cache::useful::{Form, Useful};
+use texts::fields;
+use texts::lines::Fields;
+use texts::refusals::{Fault, Reason};
 
 // The fields of a task line, behind the first, which says of what kind the line is.
 #[derive(Clone, Copy)]
@@ -50,7 +50,7 @@ fn cut(line: &[u8]) -> Option<TaskFields<'_>>
 }
 
 // What the field at this place says in ticks, if it is a number.
-#[tactic(auto, unfolding(crate::specs::Rows::unless_fault))]
+#[tactic(auto, unfolding(texts::specs::Rows::unless_fault))]
 fn read_ticks(field: &[u8], at: usize) -> Result<Ticks, Fault>
     ensures { result ≡ unless_fault ((not (is_number field.now), at_field at Number) ∷ []) (record { 0 = number field.now }) }
 {
@@ -59,7 +59,7 @@ fn read_ticks(field: &[u8], at: usize) -> Result<Ticks, Fault>
 }
 
 // Refuses a time, that of the field at this place, if it is below the least or longer than any may be.
-#[tactic(auto, unfolding(crate::specs::Rows::unless_fault))]
+#[tactic(auto, unfolding(texts::specs::Rows::unless_fault))]
 fn check_range(ticks: Ticks, least: u64, at: usize) -> Result<(), Fault>
     ensures { result ≡ unless_fault ((not (is_within least LONGEST ticks.0), at_field at Range) ∷ []) tt }
 {
@@ -95,7 +95,7 @@ impl Task {
     }
 
     // The task that a line says in a table of this form with so many cache sets, below the tasks above it, and the line's B; or its first refusal.
-    #[tactic(auto, using(std::proofs::lemmas::Bool::Decides::nat_tests), unfolding(crate::specs::TaskLine::task_rows, crate::specs::TaskLine::task_said, crate::specs::Rows::unless_fault))]
+    #[tactic(auto, using(std::proofs::lemmas::Bool::Decides::nat_tests), unfolding(crate::specs::TaskLine::task_rows, crate::specs::TaskLine::task_said, texts::specs::Rows::unless_fault))]
     pub fn read(line: &[u8], form: Form, sets: u64, above: &[Task]) -> Result<(Task, Ticks), Fault>
         ensures { result ≡ unless_fault (task_rows form sets above.now line.now) (task_said form sets line.now, blocking_said line.now) }
     {

@@ -1,12 +1,12 @@
 // Names of tasks.
 ghost use Rattle.std.specs.Prelude.{◌≡◌, ◌≤◌, ◌==◌, IsTrue, length, position};
-ghost use Rattle.table.specs.Fields.{is_name};
+ghost use Rattle.texts.specs.Fields.{is_name};
 ghost use Rattle.std.specs.Str.{bytes_eq};
 ghost use Rattle.table.specs.Names.{has_name, knows, is_filled};
 ghost use Rattle.table.specs.Tasks.{name_text, pack_name};
 
-use crate::fields;
 use crate::tasks::Task;
+use texts::fields;
 
 // A name of 1 to 12 bytes, filled up with zeros.
 #[derive(Clone, Copy, PartialEq, Eq)]

@@ -2,8 +2,8 @@
 use Rattle.std.proofs.Common.{ℕ, List, ◌≡◌, true, [], ◌∷◌, arith, ap, length, sym, ◌∙◌, refl, codes}
 use Rattle.std.proofs.lemmas.Bool.{false≢true, not-true, not-false}
 use Rattle.std.specs.Str.{bytes_eq}
-use Rattle.table.specs.Cut.{fields}
-use Rattle.table.proofs.Shapes.{no-length, other_count, other_letter, shaped}
+use Rattle.texts.specs.Cut.{fields}
+use Rattle.texts.proofs.Shapes.{no-length, other_count, other_letter, shaped}
 use Rattle.claims.proofs.list.cut.Goals as goal
 
 pub returns-in_err-next : goal.returns-in_err-next

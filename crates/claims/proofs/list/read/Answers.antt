@@ -5,7 +5,7 @@ use Rattle.table.specs.declared.Table.{Table}
 use Rattle.table.specs.Tables.{at, tasks_of}
 use Rattle.analysis.proofs.TableLaws.{tasks-counted}
 use Rattle.search.specs.declared.demand.Response.{Response}
-use Rattle.table.specs.declared.refusals.Refusal.{Refusal}
+use Rattle.texts.specs.declared.refusals.Refusal.{Refusal}
 use Rattle.claims.specs.Lists.{first_claim, claims_in}
 use Rattle.claims.proofs.ListLaws.{none-read, read-refused, one-read, end-refused, all-read, none-claimed, none-behind}
 use Rattle.claims.proofs.list.read.Goals as goal

@@ -1,8 +1,8 @@
 use Rattle.std.proofs.Common.{ℕ, List, ◌≡◌, true, [], ◌∷◌, inl, inr, arith, ap, length, sym, ◌∙◌, refl, codes}
 use Rattle.std.proofs.lemmas.Bool.{false≢true, not-true, not-false}
 use Rattle.std.specs.Str.{bytes_eq}
-use Rattle.table.specs.Cut.{fields}
-use Rattle.table.proofs.Shapes.{no-length}
+use Rattle.texts.specs.Cut.{fields}
+use Rattle.texts.proofs.Shapes.{no-length}
 use Rattle.table.proofs.HeadShapes.{head-count, head-letter, head-shaped}
 use Rattle.table.proofs.tasks.head.cut.Goals as goal
 

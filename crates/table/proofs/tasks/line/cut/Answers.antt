@@ -1,7 +1,7 @@
 use Rattle.std.proofs.Common.{◌≡◌, [], ◌∷◌, arith, ap, length, sym, ◌∙◌}
 use Rattle.std.proofs.lemmas.Bool.{false≢true}
-use Rattle.table.specs.Cut.{fields}
-use Rattle.table.proofs.Shapes.{other_number, no-length}
+use Rattle.texts.specs.Cut.{fields}
+use Rattle.texts.proofs.Shapes.{other_number, no-length}
 use Rattle.table.proofs.tasks.line.cut.Goals as goal
 
 pub returns-in_err-next : goal.returns-in_err-next

@@ -1,6 +1,6 @@
 -- A name ends where the first zero stands, or fills its bytes.
 use Rattle.std.proofs.Common.{ap, length, sym, ◌∙◌, arith}
-use Rattle.table.proofs.Found.{end-found, before-missing}
+use Rattle.texts.proofs.Found.{end-found, before-missing}
 use Rattle.table.proofs.tasks.name.Name.len.Goals as goal
 
 pub returns-in-Some-clause-is : goal.returns-in-Some-clause-is

@@ -1,5 +1,5 @@
 use Rattle.std.proofs.Common.{sym, ◌∙◌}
-use Rattle.table.proofs.Found.{before-found, before-missing}
+use Rattle.texts.proofs.Found.{before-found, before-missing}
 use Rattle.table.proofs.tasks.name.Name.text.Goals as goal
 
 pub returns-in-Some : goal.returns-in-Some
